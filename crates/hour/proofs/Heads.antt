@@ -1,0 +1,160 @@
+-- What a head that is not refused says of the length and the counts, and that the items are those of the market.
+-- Assumes nothing.
+use mathlib.Core.Bool.{not, cond, true, false}
+use mathlib.Core.List.{List}
+use mathlib.Core.Path.{_≡_, refl, sym, ap, ap₂, _∙_}
+use Prim.Native.Nat.{ℕ, zero, suc, _+_, _<_, _≤_}
+use native.Mathlib.Nat.{zero-add}
+use native.Mathlib.Omega.{arith}
+use lib.Dec.{eqb, leb}
+use lib.ListN.{length}
+use Rattle.std.proofs.shelf.Counted.{length-map-counting, getD-map-counting}
+use Rattle.std.proofs.shelf.Tests.{eqb-true, eqb-false, ltb-false, not-false, cond-true, le-leb, or-parts}
+use Rattle.std.specs.Options.{isSome}
+use Rattle.std.specs.declared.option.Option.{Option}
+use Rattle.std.specs.declared.option.Option.the-variants.{Some, None}
+use Rattle.std.specs.declared.result.Result.{Result}
+use Rattle.std.specs.declared.result.Result.the-variants.{Ok, Err}
+use Rattle.hour.specs.declared.items.Bid.{Bid}
+use Rattle.hour.specs.declared.items.Line.{Line}
+use Rattle.hour.specs.declared.reading.Head.{Head}
+use Rattle.hour.specs.declared.refusals.Refusal.{Refusal}
+use Rattle.hour.specs.First.{_else_}
+use Rattle.hour.specs.Rules.{item-fault, max-zones, max-bids, max-lines, bids-fault, all-lines-fault, bid-fault, line-fault, bid-place, line-place, zones-fault, buys-fault, sells-fault, lines-fault}
+use Rattle.hour.specs.Bytes.{byte, two, size-said, head-fault, head-of, head-read, bids-read, lines-read, bids-said, lines-said, bid-at, line-at, in-first, market-of, refusal-of}
+use Rattle.hour.proofs.First.{first-same, else-first, else-second, else-third, else-none, else-none-left, else-none-right, when-none}
+
+-- what a sound head says
+pub record Sound (bs : List ℕ) : Type 0 where
+  pub some-zone : 0 < byte bs 0
+  pub zones : byte bs 0 ≤ max-zones
+  pub buys : two bs 1 ≤ max-bids
+  pub sells : two bs 3 ≤ max-bids
+  pub lines : two bs 5 ≤ max-lines
+  pub size : length bs ≡ size-said bs
+
+pub sound-head : (bs : List ℕ) → head-fault bs ≡ None → Sound bs
+sound-head bs none =
+    let after-zones = else-none-right (in-first 1 bs (zones-fault (byte bs 0))) _ none in
+    let after-buys = else-none-right (in-first 3 bs (buys-fault (two bs 1))) _ after-zones in
+    let after-sells = else-none-right (in-first 5 bs (sells-fault (two bs 3))) _ after-buys in
+    let after-lines = else-none-right (in-first 7 bs (lines-fault (two bs 5))) _ after-sells in
+    let size : length bs ≡ size-said bs =
+    eqb-true _ _ (not-false _ (when-none (not (eqb (length bs) (size-said bs))) _ after-lines))
+    in
+    let came : (n : ℕ) (fault : Option Refusal) → n ≤ 7 → in-first n bs fault ≡ None → fault ≡ None =
+    λ n fault within at. sym (cond-true (leb n (length bs)) fault None (le-leb n (length bs) (omega arith))) ∙ at
+    in
+    let zones = or-parts (eqb (byte bs 0) 0) _ (when-none _ _ (came 1 _ (omega arith) (else-none-left _ _ none))) in
+    record {
+      some-zone = omega (arith, eqb-false _ _ (zones .0));
+      zones = ltb-false _ _ (zones .1);
+      buys = ltb-false _ _ (when-none _ _ (came 3 _ (omega arith) (else-none-left _ _ after-zones)));
+      sells = ltb-false _ _ (when-none _ _ (came 5 _ (omega arith) (else-none-left _ _ after-buys)));
+      lines = ltb-false _ _ (when-none _ _ (came 7 _ (omega arith) (else-none-left _ _ after-sells)));
+      size = size;
+    }
+
+-- what was read of a head is its fault, or what it says
+pub head-read-ok : (bs : List ℕ) (h : Head) → head-read bs ≡ Ok h → (head-fault bs ≡ None) × (h ≡ head-of bs)
+head-read-ok bs h ok = go (head-fault bs) ok
+  where
+    go :
+        (fault : Option Refusal) → _≡_ {A = Result Head Refusal} (elim fault [ Some refusal ↦ Err refusal | None ↦ Ok (head-of bs) ]) (Ok h) →
+        (fault ≡ None) × (h ≡ head-of bs)
+    go None ok = (refl, cc)
+    go (Some refusal) ok = let z : _≡_ {A = ℕ} 0 1 = cc in absurd (omega arith)
+
+pub head-read-err : (bs : List ℕ) (e : Refusal) → head-read bs ≡ Err e → head-fault bs ≡ Some e
+head-read-err bs e err = go (head-fault bs) err
+  where
+    go :
+        (fault : Option Refusal) → _≡_ {A = Result Head Refusal} (elim fault [ Some refusal ↦ Err refusal | None ↦ Ok (head-of bs) ]) (Err e) →
+        fault ≡ Some e
+    go None err = let z : _≡_ {A = ℕ} 0 1 = cc in absurd (omega arith)
+    go (Some refusal) err = cc
+
+pub bids-fault-said :
+    (z : ℕ) (bs : List ℕ) (before count : ℕ) →
+    bids-fault z before (bids-said bs before count) ≡ bids-read z bs before count
+bids-fault-said z bs before count =
+    let said : ℕ → Bid = λ k. bid-at bs (bid-place (before + k)) in
+    let no-bid : Bid = record { zone = 0; price = 0; amount = 0 } in
+    rw (length-map-counting said 0 count)
+    (first-same _ _ count
+    (λ k below. ap (bid-fault z (bid-place (before + k))) (getD-map-counting said 0 count k k no-bid below (zero-add k))))
+
+pub lines-fault-said :
+    (z : ℕ) (bs : List ℕ) (bids count : ℕ) →
+    all-lines-fault z bids (lines-said bs bids count) ≡ lines-read z bs bids count
+lines-fault-said z bs bids count =
+    let said : ℕ → Line = λ k. line-at bs (line-place bids k) in
+    let no-line : Line = record { from = 0; to = 0; capacity = 0 } in
+    rw (length-map-counting said 0 count)
+    (first-same _ _ count
+    (λ k below. ap (line-fault z (line-place bids k)) (getD-map-counting said 0 count k k no-line below (zero-add k))))
+
+-- the items of the market, checked where they stand
+pub items-said :
+    (bs : List ℕ) →
+    (bids-read (byte bs 0) bs 0 (two bs 1)
+    else bids-read (byte bs 0) bs (two bs 1) (two bs 3)
+    else lines-read (byte bs 0) bs (two bs 1 + two bs 3) (two bs 5))
+    ≡ item-fault (market-of bs)
+items-said bs =
+    let z = byte bs 0 in
+    let m = market-of bs in
+    let buys : two bs 1 ≡ length (m .buys) = sym (length-map-counting _ 0 (two bs 1)) in
+    let sells : two bs 3 ≡ length (m .sells) = sym (length-map-counting _ 0 (two bs 3)) in
+    ap₂ _else_ (sym (bids-fault-said z bs 0 (two bs 1)))
+    (ap₂ _else_
+    (sym (bids-fault-said z bs (two bs 1) (two bs 3)) ∙ ap (λ (n : ℕ). bids-fault z n (m .sells)) buys)
+    (sym (lines-fault-said z bs (two bs 1 + two bs 3) (two bs 5))
+    ∙ ap₂ (λ (a b : ℕ). all-lines-fault z (a + b) (m .lines)) buys sells))
+
+-- of three checks, one after the other, which gives the answer
+module _ (bs : List ℕ) (h : Head) (ok : head-read bs ≡ Ok h) where
+  reads :
+      (bids-read (h .zones) bs 0 (h .buys)
+      else bids-read (h .zones) bs (h .buys) (h .sells)
+      else lines-read (h .zones) bs (h .buys + h .sells) (h .lines))
+      ≡ item-fault (market-of bs)
+  reads =
+      ap
+      (λ (g : Head).
+      bids-read (g .zones) bs 0 (g .buys)
+      else bids-read (g .zones) bs (g .buys) (g .sells)
+      else lines-read (g .zones) bs (g .buys + g .sells) (g .lines))
+      (head-read-ok bs h ok .1)
+      ∙ items-said bs
+
+  pub fault-in-buys :
+      (r : Option Refusal) → r ≡ bids-read (h .zones) bs 0 (h .buys) → isSome r ≡ true →
+      r ≡ item-fault (market-of bs)
+  fault-in-buys r buys some =
+      else-first r _ (bids-read (h .zones) bs (h .buys) (h .sells)) (lines-read (h .zones) bs (h .buys + h .sells) (h .lines))
+      buys some
+      ∙ reads
+
+  pub fault-in-sells :
+      (q r : Option Refusal) → q ≡ bids-read (h .zones) bs 0 (h .buys) → isSome q ≡ false →
+      r ≡ bids-read (h .zones) bs (h .buys) (h .sells) → isSome r ≡ true →
+      r ≡ item-fault (market-of bs)
+  fault-in-sells q r buys none sells some = else-second _ _ _ _ _ buys none sells some ∙ reads
+
+  pub fault-in-lines :
+      (p q r : Option Refusal) → p ≡ bids-read (h .zones) bs 0 (h .buys) → isSome p ≡ false →
+      q ≡ bids-read (h .zones) bs (h .buys) (h .sells) → isSome q ≡ false →
+      r ≡ lines-read (h .zones) bs (h .buys + h .sells) (h .lines) →
+      r ≡ item-fault (market-of bs)
+  fault-in-lines p q r buys no-buy sells no-sell lines =
+      else-third _ _ _ _ _ _ buys no-buy sells no-sell lines ∙ reads
+
+-- a refused head refuses the hour, and a sound one leaves it to the items
+pub refusal-by-head : (bs : List ℕ) (e : Refusal) → head-read bs ≡ Err e → Some e ≡ refusal-of bs
+refusal-by-head bs e err = ap (λ (o : Option Refusal). o else item-fault (market-of bs)) (sym (head-read-err bs e err))
+
+pub refusal-by-items :
+    (bs : List ℕ) (h : Head) (r : Option Refusal) → head-read bs ≡ Ok h → r ≡ item-fault (market-of bs) →
+    r ≡ refusal-of bs
+refusal-by-items bs h r ok is = is ∙ sym (else-none _ _ (head-read-ok bs h ok .0))
