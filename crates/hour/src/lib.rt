@@ -3,8 +3,14 @@ mod items;
 mod reading;
 mod refusals;
 mod rules;
+mod view;
 
 pub use items::Bid;
 pub use items::Line;
+pub use reading::Head;
+pub use reading::check_items;
+pub use reading::read_head;
+pub use reading::refusal;
 pub use refusals::Refusal;
 pub use refusals::Sort;
+pub use view::Hour;

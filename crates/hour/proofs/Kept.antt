@@ -1,0 +1,129 @@
+-- An hour that no rule refuses keeps the rules, and the other way round. Assumes nothing.
+use mathlib.Core.Bool.{false, true}
+use mathlib.Core.List.{List}
+use mathlib.Core.Path.{_≡_, refl, sym, ap, _∙_}
+use Prim.Native.Nat.{ℕ, _+_, _*_, _<_, _≤_}
+use native.Mathlib.Nat.{zero-add, pos-of-ne-zero}
+use native.Mathlib.Omega.{arith}
+use lib.Dec.{eqb, leb, ltb}
+use lib.ListN.{length}
+use Rattle.std.proofs.shelf.Counted.{length-map-counting, getD-map-counting}
+use Rattle.std.proofs.shelf.Tests.{eqb-false, ne-eqb, ltb-false, le-ltb, leb-false, lt-leb, or-parts, or-from}
+use Rattle.std.specs.Options.{isSome}
+use Rattle.std.specs.declared.option.Option.{Option}
+use Rattle.std.specs.declared.option.Option.the-variants.{Some, None}
+use Rattle.hour.specs.declared.items.Bid.{Bid}
+use Rattle.hour.specs.declared.items.Line.{Line}
+use Rattle.hour.specs.declared.refusals.Refusal.{Refusal}
+use Rattle.hour.specs.Bytes.{byte, two, bid-at, line-at, head-fault, market-of, refusal-of}
+use Rattle.hour.specs.First.{_else_, first}
+use Rattle.hour.specs.Market.{Market, bid, line}
+use Rattle.hour.specs.Rules.{bid-place, line-place, bid-fault, line-fault, bids-fault, all-lines-fault, item-fault, shape-fault, Bid-kept, Line-kept, Keeps-rules}
+use Rattle.hour.proofs.First.{is-none, else-none, else-none-left, else-none-right, when-none, when-false, first-none, first-all}
+use Rattle.hour.proofs.Heads.{Sound, sound-head}
+
+pub bid-kept : (z place : ℕ) (b : Bid) → bid-fault z place b ≡ None → Bid-kept z b
+bid-kept z place b none =
+    let after-zone = else-none-right _ _ none in
+    let amount = or-parts (eqb (b .amount) 0) _ (when-none _ _ (else-none-right _ _ after-zone)) in
+    let nonzero = eqb-false (b .amount) 0 (amount .0) in
+    record {
+      zone = leb-false z (b .zone) (when-none _ _ (else-none-left _ _ none));
+      price = ltb-false _ _ (when-none _ _ (else-none-left _ _ after-zone));
+      some = pos-of-ne-zero nonzero;
+      amount = ltb-false _ _ (amount .1);
+    }
+
+pub line-kept : (z place : ℕ) (l : Line) → line-fault z place l ≡ None → Line-kept z l
+line-kept z place l none =
+    let after-from = else-none-right _ _ none in
+    record {
+      from = leb-false z (l .from) (when-none _ _ (else-none-left _ _ none));
+      to = leb-false z (l .to) (when-none _ _ (else-none-left _ _ after-from));
+      capacity = ltb-false _ _ (when-none _ _ (else-none-right _ _ after-from));
+    }
+
+-- an hour's bytes that are not refused: the head is sound, and every item keeps its rules
+pub head-free : (bs : List ℕ) → refusal-of bs ≡ None → Sound bs
+head-free bs none = sound-head bs (else-none-left _ _ none)
+
+pub buys-count : (bs : List ℕ) → length (market-of bs .buys) ≡ two bs 1
+buys-count bs = length-map-counting _ 0 (two bs 1)
+
+pub sells-count : (bs : List ℕ) → length (market-of bs .sells) ≡ two bs 3
+sells-count bs = length-map-counting _ 0 (two bs 3)
+
+pub lines-count : (bs : List ℕ) → length (market-of bs .lines) ≡ two bs 5
+lines-count bs = length-map-counting _ 0 (two bs 5)
+
+-- the k-th of each sort, where it stands in the bytes
+pub buy-said : (bs : List ℕ) (k : ℕ) → k < two bs 1 → bid-at bs (bid-place k) ≡ bid (market-of bs .buys) k
+buy-said bs k below =
+    ap (λ (i : ℕ). bid-at bs (bid-place i)) (sym (zero-add k))
+    ∙ sym (getD-map-counting _ 0 (two bs 1) k k _ below (zero-add k))
+
+pub sell-said :
+    (bs : List ℕ) (k : ℕ) → k < two bs 3 → bid-at bs (bid-place (two bs 1 + k)) ≡ bid (market-of bs .sells) k
+sell-said bs k below = sym (getD-map-counting _ 0 (two bs 3) k k _ below (zero-add k))
+
+pub line-said :
+    (bs : List ℕ) (k : ℕ) → k < two bs 5 →
+    line-at bs (line-place (two bs 1 + two bs 3) k) ≡ line (market-of bs .lines) k
+line-said bs k below = sym (getD-map-counting _ 0 (two bs 5) k k _ below (zero-add k))
+
+-- no bid and no line of a list with no fault breaks a rule
+pub bids-kept :
+    (z before : ℕ) (bs : List Bid) → bids-fault z before bs ≡ None →
+    (k : ℕ) → k < length bs → Bid-kept z (bid bs k)
+bids-kept z before bs none k below = bid-kept z _ (bid bs k) (first-none _ (length bs) none k below)
+
+pub lines-kept :
+    (z bids : ℕ) (ls : List Line) → all-lines-fault z bids ls ≡ None →
+    (k : ℕ) → k < length ls → Line-kept z (line ls k)
+lines-kept z bids ls none k below = line-kept z _ (line ls k) (first-none _ (length ls) none k below)
+
+pub kept : (bs : List ℕ) → refusal-of bs ≡ None → Keeps-rules (market-of bs)
+kept bs none =
+    let head = head-free bs none in
+    let m = market-of bs in
+    let items : item-fault m ≡ None = else-none-right (head-fault bs) _ none in
+    let after-buys = else-none-right (bids-fault (m .zones) 0 (m .buys)) _ items in
+    record {
+      some-zone = head .some-zone;
+      zones = head .zones;
+      buys = rw (buys-count bs) (head .buys);
+      sells = rw (sells-count bs) (head .sells);
+      lines = rw (lines-count bs) (head .lines);
+      each-buy = bids-kept (m .zones) 0 (m .buys) (else-none-left _ _ items);
+      each-sell = bids-kept (m .zones) (length (m .buys)) (m .sells) (else-none-left _ _ after-buys);
+      each-line = lines-kept (m .zones) (length (m .buys) + length (m .sells)) (m .lines) (else-none-right _ _ after-buys);
+    }
+
+-- what a view of an hour's bytes reads: z, m, n are its counts, and each is of a sort and keeps its rules
+module _ (bs : List ℕ) (free : isSome (refusal-of bs) ≡ false) (z : ℕ) (zones : z ≡ byte bs 0) where
+  rules : Keeps-rules (market-of bs)
+  rules = kept bs (is-none (refusal-of bs) free)
+
+  pub buy-read :
+      (n k : ℕ) (b : Bid) → n ≡ two bs 1 → k < n → b ≡ bid-at bs (bid-place k) →
+      (b ≡ bid (market-of bs .buys) k) × Bid-kept z b
+  buy-read n k b count below is =
+      let value = is ∙ buy-said bs k (omega arith) in
+      (value, rw (zones, value) (rules .each-buy k (omega (arith, buys-count bs))))
+
+  pub sell-read :
+      (m n k : ℕ) (b : Bid) → m ≡ two bs 1 → n ≡ two bs 3 → k < n → b ≡ bid-at bs (bid-place (m + k)) →
+      (b ≡ bid (market-of bs .sells) k) × Bid-kept z b
+  sell-read m n k b before count below is =
+      let within : k < two bs 3 = omega arith in
+      let value : b ≡ bid (market-of bs .sells) k = is ∙ (rw before (sell-said bs k within)) in
+      (value, rw (zones, value) (rules .each-sell k (omega (arith, sells-count bs))))
+
+  pub line-read :
+      (m n o k : ℕ) (l : Line) → m ≡ two bs 1 → n ≡ two bs 3 → o ≡ two bs 5 → k < o →
+      l ≡ line-at bs (line-place (m + n) k) →
+      (l ≡ line (market-of bs .lines) k) × Line-kept z l
+  line-read m n o k l buys sells count below is =
+      let within : k < two bs 5 = omega arith in
+      let value : l ≡ line (market-of bs .lines) k = is ∙ (rw (buys, sells) (line-said bs k within)) in
+      (value, rw (zones, value) (rules .each-line k (omega (arith, lines-count bs))))
