@@ -71,6 +71,11 @@ module _ {A : Type 0} (f : ℕ → Option A) where
       (λ (le : n ≤ k). let same : k ≡ n = omega arith in rw (← same) (else-none (first k f) (f k) none))
       (cases-lt k n)
 
+  -- a loop that stops at its first find r
+  pub first-answer :
+      (k n : ℕ) (r : Option A) → k < n → first k f ≡ None → r ≡ f k → isSome r ≡ true → r ≡ first n f
+  first-answer k n r below none here some = here ∙ sym (first-found k n below none (ap isSome (sym here) ∙ some))
+
   -- nothing was found: nothing is there to find
   pub first-none : (n : ℕ) → first n f ≡ None → (k : ℕ) → k < n → f k ≡ None
   first-none zero none k below = absurd (omega arith)

@@ -1,3 +1,5 @@
 pub mod First
 pub mod Heads
 pub mod Kept
+pub mod Pasted
+pub mod Written

@@ -1,10 +1,13 @@
 // One hour of the market, from its bytes to its bids and lines and back.
+mod books;
 mod items;
 mod reading;
 mod refusals;
 mod rules;
 mod view;
+mod writing;
 
+pub use books::Book;
 pub use items::Bid;
 pub use items::Line;
 pub use reading::Head;

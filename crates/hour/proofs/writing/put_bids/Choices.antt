@@ -1,0 +1,10 @@
+use mathlib.Core.Path.{_≡_}
+use Prim.Native.Nat.{_*_}
+use lib.ListN.{take}
+use lib.Seq.{paste}
+use Rattle.std.specs.Joined.{joined}
+use Rattle.hour.specs.Bytes.{bid-bytes}
+use Rattle.hour.proofs.writing.put_bids.Given as given
+
+abbrev pub Inv-loop-k : given.InvT-loop-k
+Inv-loop-k l = l .out ≡ paste (l .entry .out) (l .at) (joined bid-bytes (take (l .k) (l .bids))) (7 * l .k)
