@@ -1,6 +1,6 @@
 -- What a head that is not refused says of the length and the counts, and that the items are those of the market.
 -- Assumes nothing.
-use mathlib.Core.Bool.{not, cond, true, false}
+use mathlib.Core.Bool.{Bool, not, cond, true, false}
 use mathlib.Core.List.{List}
 use mathlib.Core.Path.{_≡_, refl, sym, ap, ap₂, _∙_}
 use Prim.Native.Nat.{ℕ, zero, suc, _+_, _<_, _≤_}
@@ -9,7 +9,7 @@ use native.Mathlib.Omega.{arith}
 use lib.Dec.{eqb, leb}
 use lib.ListN.{length}
 use Rattle.std.proofs.shelf.Counted.{length-map-counting, getD-map-counting}
-use Rattle.std.proofs.shelf.Tests.{eqb-true, eqb-false, ltb-false, not-false, cond-true, le-leb, or-parts}
+use Rattle.std.proofs.shelf.Tests.{eqb-true, eqb-false, ltb-false, not-false, cond-true, le-leb, le-ltb, ne-eqb, eq-eqb, or-parts, or-from, not-from-true}
 use Rattle.std.specs.Options.{isSome}
 use Rattle.std.specs.declared.option.Option.{Option}
 use Rattle.std.specs.declared.option.Option.the-variants.{Some, None}
@@ -22,7 +22,11 @@ use Rattle.hour.specs.declared.refusals.Refusal.{Refusal}
 use Rattle.hour.specs.First.{_else_}
 use Rattle.hour.specs.Rules.{item-fault, max-zones, max-bids, max-lines, bids-fault, all-lines-fault, bid-fault, line-fault, bid-place, line-place, zones-fault, buys-fault, sells-fault, lines-fault}
 use Rattle.hour.specs.Bytes.{byte, two, size-said, head-fault, head-of, head-read, bids-read, lines-read, bids-said, lines-said, bid-at, line-at, in-first, market-of, refusal-of}
-use Rattle.hour.proofs.First.{first-same, else-first, else-second, else-third, else-none, else-none-left, else-none-right, when-none}
+use Rattle.hour.proofs.First.{first-same, else-first, else-second, else-third, else-none, else-none-left, else-none-right, when-none, when-false}
+
+cond-same : {A : Type 0} (b : Bool) (x : A) → cond b x x ≡ x
+cond-same true x = refl
+cond-same false x = refl
 
 -- what a sound head says
 pub record Sound (bs : List ℕ) : Type 0 where
@@ -54,6 +58,23 @@ sound-head bs none =
       lines = ltb-false _ _ (when-none _ _ (came 7 _ (omega arith) (else-none-left _ _ after-sells)));
       size = size;
     }
+
+pub head-from-sound : (bs : List ℕ) → Sound bs → head-fault bs ≡ None
+head-from-sound bs sound =
+    let skip : (n : ℕ) (fault : Option Refusal) → fault ≡ None → in-first n bs fault ≡ None =
+    λ n fault none. ap (λ (o : Option Refusal). in-first n bs o) none ∙ cond-same (leb n (length bs)) None
+    in
+    let zones : zones-fault (byte bs 0) ≡ None =
+    when-false _ _
+    (or-from _ _
+    (ne-eqb (byte bs 0) 0 (λ (e : byte bs 0 ≡ 0). absurd (omega (arith, sound .some-zone))))
+    (le-ltb _ _ (sound .zones)))
+    in
+    else-none _ _ (skip 1 _ zones)
+    ∙ (else-none _ _ (skip 3 _ (when-false _ _ (le-ltb _ _ (sound .buys))))
+    ∙ (else-none _ _ (skip 5 _ (when-false _ _ (le-ltb _ _ (sound .sells))))
+    ∙ (else-none _ _ (skip 7 _ (when-false _ _ (le-ltb _ _ (sound .lines))))
+    ∙ when-false _ _ (not-from-true _ (eq-eqb _ _ (sound .size))))))
 
 -- what was read of a head is its fault, or what it says
 pub head-read-ok : (bs : List ℕ) (h : Head) → head-read bs ≡ Ok h → (head-fault bs ≡ None) × (h ≡ head-of bs)

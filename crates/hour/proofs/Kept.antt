@@ -43,6 +43,26 @@ line-kept z place l none =
       capacity = ltb-false _ _ (when-none _ _ (else-none-right _ _ after-from));
     }
 
+-- and the other way round: what keeps the rules has no fault
+pub bid-free : (z place : ℕ) (b : Bid) → Bid-kept z b → bid-fault z place b ≡ None
+bid-free z place b kept =
+    let some : b .amount ≡ 0 → ⊥ = λ (e : b .amount ≡ 0). absurd (omega (arith, kept .some)) in
+    else-none _ _ (when-false _ _ (lt-leb z (b .zone) (kept .zone)))
+    ∙ (else-none _ _ (when-false _ _ (le-ltb _ _ (kept .price)))
+    ∙ when-false _ _ (or-from _ _ (ne-eqb (b .amount) 0 some) (le-ltb _ _ (kept .amount))))
+
+pub line-free : (z place : ℕ) (l : Line) → Line-kept z l → line-fault z place l ≡ None
+line-free z place l kept =
+    else-none _ _ (when-false _ _ (lt-leb z (l .from) (kept .from)))
+    ∙ (else-none _ _ (when-false _ _ (lt-leb z (l .to) (kept .to)))
+    ∙ when-false _ _ (le-ltb _ _ (kept .capacity)))
+
+pub items-free : (m : Market) → Keeps-rules m → item-fault m ≡ None
+items-free m kept =
+    else-none _ _ (first-all _ (length (m .buys)) (λ k below. bid-free (m .zones) _ _ (kept .each-buy k below)))
+    ∙ (else-none _ _ (first-all _ (length (m .sells)) (λ k below. bid-free (m .zones) _ _ (kept .each-sell k below)))
+    ∙ first-all _ (length (m .lines)) (λ k below. line-free (m .zones) _ _ (kept .each-line k below)))
+
 -- an hour's bytes that are not refused: the head is sound, and every item keeps its rules
 pub head-free : (bs : List ℕ) → refusal-of bs ≡ None → Sound bs
 head-free bs none = sound-head bs (else-none-left _ _ none)

@@ -3,3 +3,6 @@ pub mod Heads
 pub mod Kept
 pub mod Pasted
 pub mod Written
+pub mod Numbers
+pub mod ReadBack
+pub mod WrittenBack

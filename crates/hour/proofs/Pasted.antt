@@ -121,6 +121,28 @@ module _ {X : Type 0} (f : X → List ℕ) (width : ℕ) (each : (x : X) → wid
       is
       ∙ ap₂ (λ (ys : List X) (n : ℕ). paste d at (joined f ys) (width * n)) (take-all k xs (omega arith)) all
 
+-- how far the bytes of an hour reach: up to its buys, its sells, its lines
+pub upto-buys : (m : Market) → 7 + 7 * length (m .buys) ≡ length (head-bytes m ++ joined bid-bytes (m .buys))
+upto-buys m =
+    ap (λ (n : ℕ). 7 + n) (length-joined bid-bytes 7 (λ x. refl) (m .buys))
+    ∙ sym (length-append (head-bytes m) (joined bid-bytes (m .buys)))
+
+pub upto-sells :
+    (m : Market) →
+    7 + 7 * length (m .buys) + 7 * length (m .sells)
+    ≡ length (head-bytes m ++ joined bid-bytes (m .buys) ++ joined bid-bytes (m .sells))
+upto-sells m =
+    ap₂ _+_ (upto-buys m) (length-joined bid-bytes 7 (λ x. refl) (m .sells))
+    ∙ sym (length-append (head-bytes m ++ joined bid-bytes (m .buys)) (joined bid-bytes (m .sells)))
+
+pub length-bytes-of : (m : Market) → size-of m ≡ length (bytes-of m)
+length-bytes-of m =
+    let front = head-bytes m ++ joined bid-bytes (m .buys) ++ joined bid-bytes (m .sells) in
+    let lines-long : 5 * length (m .lines) ≡ length (joined line-bytes (m .lines)) =
+    length-joined line-bytes 5 (λ x. refl) (m .lines)
+    in
+    omega (arith, upto-sells m, lines-long, length-append front (joined line-bytes (m .lines)))
+
 -- the head, the buys, the sells and the lines, one after the other, are the hour's bytes
 pub paste-hour :
     (m : Market) (d e f g h : List ℕ) →
@@ -136,22 +158,15 @@ paste-hour m d e f g h head buys sells lines =
     let bb = joined bid-bytes (m .buys) in
     let sb = joined bid-bytes (m .sells) in
     let lb = joined line-bytes (m .lines) in
-    let front = head-bytes m ++ bb in
-    let buys-long : 7 * nb ≡ length bb = length-joined bid-bytes 7 (λ x. refl) (m .buys) in
-    let sells-long : 7 * ns ≡ length sb = length-joined bid-bytes 7 (λ x. refl) (m .sells) in
-    let lines-long : 5 * nl ≡ length lb = length-joined line-bytes 5 (λ x. refl) (m .lines) in
-    let front-long : 7 + 7 * nb ≡ length front =
-    ap (λ (n : ℕ). 7 + n) buys-long ∙ sym (length-append (head-bytes m) bb)
-    in
-    let bids-long : 7 + 7 * nb + 7 * ns ≡ length (front ++ sb) =
-    omega (arith, front-long, sells-long, length-append front sb)
-    in
+    let buys-long = length-joined bid-bytes 7 (λ x. refl) (m .buys) in
+    let sells-long = length-joined bid-bytes 7 (λ x. refl) (m .sells) in
+    let lines-long = length-joined line-bytes 5 (λ x. refl) (m .lines) in
     let size : 7 + 7 * nb + 7 * ns + 5 * nl ≡ size-of m = omega arith in
-    let whole : 7 + 7 * nb + 7 * ns + 5 * nl ≡ length (bytes-of m) =
-    omega (arith, bids-long, lines-long, length-append (front ++ sb) lb)
+    let with-buys = paste-on d e f (head-bytes m) bb 7 (7 * nb) 7 refl buys-long refl head buys in
+    let with-sells =
+    paste-on d f g (head-bytes m ++ bb) sb (7 + 7 * nb) (7 * ns) _ (upto-buys m) sells-long refl with-buys sells
     in
-    let upto-buys = paste-on d e f (head-bytes m) bb 7 (7 * nb) 7 refl buys-long refl head buys in
-    let upto-sells = paste-on d f g front sb (7 + 7 * nb) (7 * ns) _ front-long sells-long refl upto-buys sells in
-    paste-on d g h (front ++ sb) lb (7 + 7 * nb + 7 * ns) (5 * nl) _ bids-long lines-long (omega arith) upto-sells lines
-    ∙ (paste-all d 0 (bytes-of m) (7 + 7 * nb + 7 * ns + 5 * nl) whole
+    paste-on d g h (head-bytes m ++ bb ++ sb) lb (7 + 7 * nb + 7 * ns) (5 * nl) _
+    (upto-sells m) lines-long (omega arith) with-sells lines
+    ∙ (paste-all d 0 (bytes-of m) (7 + 7 * nb + 7 * ns + 5 * nl) (size ∙ length-bytes-of m)
     ∙ ap (λ (n : ℕ). bytes-of m ++ drop n d) (omega (arith, size)))

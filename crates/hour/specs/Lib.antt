@@ -6,3 +6,4 @@ pub mod Refusals
 pub mod Rules
 pub mod Bytes
 pub mod Books
+pub mod Promises

@@ -1,6 +1,7 @@
 // One hour of the market, from its bytes to its bids and lines and back.
 mod books;
 mod items;
+pub mod promises;
 mod reading;
 mod refusals;
 mod rules;
