@@ -23,22 +23,6 @@ module _ {A : Type 0} where
   pub else-none : (o p : Option A) → o ≡ None → (o else p) ≡ p
   else-none o p none = ap (λ (q : Option A). q else p) none
 
-  -- which of three checks, one after the other, gives the answer r
-  pub else-first : (r a b c : Option A) → r ≡ a → isSome r ≡ true → r ≡ (a else b else c)
-  else-first r a b c is some = is ∙ sym (else-some a (b else c) (ap isSome (sym is) ∙ some))
-
-  pub else-second :
-      (q r a b c : Option A) → q ≡ a → isSome q ≡ false → r ≡ b → isSome r ≡ true → r ≡ (a else b else c)
-  else-second q r a b c before none is some =
-      is ∙ (sym (else-some b c (ap isSome (sym is) ∙ some)) ∙ sym (else-none a (b else c) (sym before ∙ is-none q none)))
-
-  pub else-third :
-      (p q r a b c : Option A) → p ≡ a → isSome p ≡ false → q ≡ b → isSome q ≡ false → r ≡ c → r ≡ (a else b else c)
-  else-third p q r a b c before none between none-between is =
-      is
-      ∙ (sym (else-none b c (sym between ∙ is-none q none-between))
-      ∙ sym (else-none a (b else c) (sym before ∙ is-none p none)))
-
   -- nothing in the whole is nothing in either part
   pub else-none-left : (o p : Option A) → (o else p) ≡ None → o ≡ None
   else-none-left None p none = refl

@@ -21,8 +21,8 @@ use Rattle.hour.specs.declared.reading.Head.{Head}
 use Rattle.hour.specs.declared.refusals.Refusal.{Refusal}
 use Rattle.hour.specs.First.{_else_}
 use Rattle.hour.specs.Rules.{item-fault, max-zones, max-bids, max-lines, bids-fault, all-lines-fault, bid-fault, line-fault, bid-place, line-place, zones-fault, buys-fault, sells-fault, lines-fault}
-use Rattle.hour.specs.Bytes.{byte, two, size-said, head-fault, head-of, head-read, bids-read, lines-read, bids-said, lines-said, bid-at, line-at, in-first, market-of, refusal-of}
-use Rattle.hour.proofs.First.{first-same, else-first, else-second, else-third, else-none, else-none-left, else-none-right, when-none, when-false}
+use Rattle.hour.specs.Bytes.{byte, two, size-said, head-fault, head-of, head-read, bids-read, lines-read, bids-said, lines-said, bid-at, line-at, in-first, items-read, market-of, refusal-of}
+use Rattle.hour.proofs.First.{first-same, else-none, else-none-left, else-none-right, when-none, when-false}
 
 cond-same : {A : Type 0} (b : Bool) (x : A) → cond b x x ≡ x
 cond-same true x = refl
@@ -133,43 +133,8 @@ items-said bs =
     (sym (lines-fault-said z bs (two bs 1 + two bs 3) (two bs 5))
     ∙ ap₂ (λ (a b : ℕ). all-lines-fault z (a + b) (m .lines)) buys sells))
 
--- of three checks, one after the other, which gives the answer
-module _ (bs : List ℕ) (h : Head) (ok : head-read bs ≡ Ok h) where
-  reads :
-      (bids-read (h .zones) bs 0 (h .buys)
-      else bids-read (h .zones) bs (h .buys) (h .sells)
-      else lines-read (h .zones) bs (h .buys + h .sells) (h .lines))
-      ≡ item-fault (market-of bs)
-  reads =
-      ap
-      (λ (g : Head).
-      bids-read (g .zones) bs 0 (g .buys)
-      else bids-read (g .zones) bs (g .buys) (g .sells)
-      else lines-read (g .zones) bs (g .buys + g .sells) (g .lines))
-      (head-read-ok bs h ok .1)
-      ∙ items-said bs
-
-  pub fault-in-buys :
-      (r : Option Refusal) → r ≡ bids-read (h .zones) bs 0 (h .buys) → isSome r ≡ true →
-      r ≡ item-fault (market-of bs)
-  fault-in-buys r buys some =
-      else-first r _ (bids-read (h .zones) bs (h .buys) (h .sells)) (lines-read (h .zones) bs (h .buys + h .sells) (h .lines))
-      buys some
-      ∙ reads
-
-  pub fault-in-sells :
-      (q r : Option Refusal) → q ≡ bids-read (h .zones) bs 0 (h .buys) → isSome q ≡ false →
-      r ≡ bids-read (h .zones) bs (h .buys) (h .sells) → isSome r ≡ true →
-      r ≡ item-fault (market-of bs)
-  fault-in-sells q r buys none sells some = else-second _ _ _ _ _ buys none sells some ∙ reads
-
-  pub fault-in-lines :
-      (p q r : Option Refusal) → p ≡ bids-read (h .zones) bs 0 (h .buys) → isSome p ≡ false →
-      q ≡ bids-read (h .zones) bs (h .buys) (h .sells) → isSome q ≡ false →
-      r ≡ lines-read (h .zones) bs (h .buys + h .sells) (h .lines) →
-      r ≡ item-fault (market-of bs)
-  fault-in-lines p q r buys no-buy sells no-sell lines =
-      else-third _ _ _ _ _ _ buys no-buy sells no-sell lines ∙ reads
+pub items-stand : (bs : List ℕ) (h : Head) → head-read bs ≡ Ok h → items-read bs h ≡ item-fault (market-of bs)
+items-stand bs h ok = ap (items-read bs) (head-read-ok bs h ok .1) ∙ items-said bs
 
 -- a refused head refuses the hour, and a sound one leaves it to the items
 pub refusal-by-head : (bs : List ℕ) (e : Refusal) → head-read bs ≡ Err e → Some e ≡ refusal-of bs

@@ -119,31 +119,16 @@ kept bs none =
       each-line = lines-kept (m .zones) (length (m .buys) + length (m .sells)) (m .lines) (else-none-right _ _ after-buys);
     }
 
--- what a view of an hour's bytes reads: z, m, n are its counts, and each is of a sort and keeps its rules
-module _ (bs : List ℕ) (free : isSome (refusal-of bs) ≡ false) (z : ℕ) (zones : z ≡ byte bs 0) where
+-- the k-th of each sort keeps its rules where it stands
+module _ (bs : List ℕ) (free : isSome (refusal-of bs) ≡ false) (k : ℕ) where
   rules : Keeps-rules (market-of bs)
   rules = kept bs (is-none (refusal-of bs) free)
 
-  pub buy-read :
-      (n k : ℕ) (b : Bid) → n ≡ two bs 1 → k < n → b ≡ bid-at bs (bid-place k) →
-      (b ≡ bid (market-of bs .buys) k) × Bid-kept z b
-  buy-read n k b count below is =
-      let value = is ∙ buy-said bs k (omega arith) in
-      (value, rw (zones, value) (rules .each-buy k (omega (arith, buys-count bs))))
+  pub buy-kept : k < two bs 1 → Bid-kept (byte bs 0) (bid-at bs (bid-place k))
+  buy-kept below = rw (buy-said bs k below) (rules .each-buy k (omega (arith, buys-count bs)))
 
-  pub sell-read :
-      (m n k : ℕ) (b : Bid) → m ≡ two bs 1 → n ≡ two bs 3 → k < n → b ≡ bid-at bs (bid-place (m + k)) →
-      (b ≡ bid (market-of bs .sells) k) × Bid-kept z b
-  sell-read m n k b before count below is =
-      let within : k < two bs 3 = omega arith in
-      let value : b ≡ bid (market-of bs .sells) k = is ∙ (rw before (sell-said bs k within)) in
-      (value, rw (zones, value) (rules .each-sell k (omega (arith, sells-count bs))))
+  pub sell-kept : k < two bs 3 → Bid-kept (byte bs 0) (bid-at bs (bid-place (two bs 1 + k)))
+  sell-kept below = rw (sell-said bs k below) (rules .each-sell k (omega (arith, sells-count bs)))
 
-  pub line-read :
-      (m n o k : ℕ) (l : Line) → m ≡ two bs 1 → n ≡ two bs 3 → o ≡ two bs 5 → k < o →
-      l ≡ line-at bs (line-place (m + n) k) →
-      (l ≡ line (market-of bs .lines) k) × Line-kept z l
-  line-read m n o k l buys sells count below is =
-      let within : k < two bs 5 = omega arith in
-      let value : l ≡ line (market-of bs .lines) k = is ∙ (rw (buys, sells) (line-said bs k within)) in
-      (value, rw (zones, value) (rules .each-line k (omega (arith, lines-count bs))))
+  pub line-stands-kept : k < two bs 5 → Line-kept (byte bs 0) (line-at bs (line-place (two bs 1 + two bs 3) k))
+  line-stands-kept below = rw (line-said bs k below) (rules .each-line k (omega (arith, lines-count bs)))

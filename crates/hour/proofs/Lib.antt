@@ -2,7 +2,6 @@ pub mod First
 pub mod Heads
 pub mod Kept
 pub mod Pasted
-pub mod Written
 pub mod Numbers
 pub mod ReadBack
 pub mod WrittenBack

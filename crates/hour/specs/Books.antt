@@ -4,14 +4,17 @@
 --   size-of m          how many bytes the hour has
 --   write-fault m n    why m is not written into a slice of n bytes: its shape, then the slice, then its bids and lines
 --   written m n        what writing answers: how many bytes were written, or the refusal
+--   left-by m r old    what a slice that held old holds after the answer r
+use mathlib.Core.List.{List, _++_}
 use Prim.Native.Nat.{ℕ, _+_}
 use denote.Ref.{now}
 use lib.Dec.{ltb}
-use lib.ListN.{length}
+use lib.ListN.{length, drop}
 use Rattle.std.specs.declared.option.Option.{Option}
 use Rattle.std.specs.declared.option.Option.the-variants.{Some, None}
 use Rattle.std.specs.declared.result.Result.{Result}
 use Rattle.std.specs.declared.result.Result.the-variants.{Ok, Err}
+use Rattle.hour.specs.Bytes.{bytes-of}
 use Rattle.hour.specs.First.{when, _else_}
 use Rattle.hour.specs.Market.{Market}
 use Rattle.hour.specs.Rules.{line-place, shape-fault, item-fault}
@@ -31,3 +34,8 @@ write-fault m n = shape-fault m else when (ltb n (size-of m)) (Lent 0) else item
 
 abbrev pub written : Market → ℕ → Result ℕ Refusal
 written m n = elim (write-fault m n) [ Some refusal ↦ Err refusal | None ↦ Ok (size-of m) ]
+
+-- what the lent bytes hold afterwards: the hour's and then what was there, or all as it was
+abbrev pub left-by : Market → Result ℕ Refusal → List ℕ → List ℕ
+left-by m (Ok size) old = bytes-of m ++ drop (size-of m) old
+left-by m (Err refusal) old = old

@@ -90,6 +90,12 @@ bids-read z bs before count = first count (λ k. bid-fault z (bid-place (before 
 abbrev pub lines-read : ℕ → List ℕ → ℕ → ℕ → Option Refusal
 lines-read z bs bids count = first count (λ k. line-fault z (line-place bids k) (line-at bs (line-place bids k)))
 
+abbrev pub items-read : List ℕ → Head → Option Refusal
+items-read bs h =
+    bids-read (h .zones) bs 0 (h .buys)
+    else bids-read (h .zones) bs (h .buys) (h .sells)
+    else lines-read (h .zones) bs (h .buys + h .sells) (h .lines)
+
 abbrev pub refusal-of : List ℕ → Option Refusal
 refusal-of bs = head-fault bs else item-fault (market-of bs)
 

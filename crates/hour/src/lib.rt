@@ -1,5 +1,6 @@
 // One hour of the market, from its bytes to its bids and lines and back.
 mod books;
+mod facts;
 mod items;
 pub mod promises;
 mod reading;

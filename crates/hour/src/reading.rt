@@ -6,6 +6,7 @@ ghost use Rattle.std.specs.Options.{Cases};
 ghost use Rattle.std.specs.declared.result.Result.the-variants.{Ok};
 ghost use Rattle.hour.specs.Rules.{bid-place, line-place, item-fault};
 ghost use Rattle.hour.specs.Bytes.{byte, two, three, bid-at, line-at, head-read, bids-read, lines-read, market-of, refusal-of};
+use crate::facts::items_stand;
 use crate::items::Bid;
 use crate::items::Line;
 use crate::refusals::Refusal;
@@ -152,6 +153,7 @@ pub fn check_items(bytes: &[u8], head: Head) -> Option<Refusal>
     requires { ⌜ head-read (now bytes) ≡ Ok head ⌝ }
     ensures { λ r. ⌜ r ≡ item-fault (market-of (now (bytes .entry))) ⌝ }
 {
+    items_stand(bytes, head);
     let buys = head.buys as usize;
     let sells = head.sells as usize;
     let fault = check_bids(bytes, head.zones, 0, buys);

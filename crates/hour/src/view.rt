@@ -8,6 +8,10 @@ ghost use Rattle.std.specs.Options.{isSome};
 ghost use Rattle.hour.specs.Bytes.{byte, two, market-of, refusal-of};
 ghost use Rattle.hour.specs.Market.{bid, line};
 ghost use Rattle.hour.specs.Rules.{line-place, Bid-kept, Line-kept};
+use crate::facts::buy_stands;
+use crate::facts::counts_stand;
+use crate::facts::line_stands;
+use crate::facts::sell_stands;
 use crate::items::Bid;
 use crate::items::Line;
 use crate::reading::bid_from;
@@ -27,6 +31,9 @@ pub struct Hour<'a> {
     ghost buys_said: { buys ≡ two (now bytes) 1 },
     ghost sells_said: { sells ≡ two (now bytes) 3 },
     ghost lines_said: { lines ≡ two (now bytes) 5 },
+    ghost buys_count: { buys ≡ length (market-of (now bytes) .buys) },
+    ghost sells_count: { sells ≡ length (market-of (now bytes) .sells) },
+    ghost lines_count: { lines ≡ length (market-of (now bytes) .lines) },
     ghost size: { length (now bytes) ≡ line-place (buys + sells) lines },
 }
 
@@ -36,6 +43,7 @@ impl<'a> Hour<'a> {
         requires { ⌜ isSome (refusal-of (now bytes)) ≡ false ⌝ }
         ensures { λ r. ⌜ now (r .bytes) ≡ now (bytes .entry) ⌝ }
     {
+        counts_stand(bytes);
         let zones = u64::from(bytes[0]);
         let buys = two_bytes(bytes, 1) as usize;
         let sells = two_bytes(bytes, 3) as usize;
@@ -81,6 +89,7 @@ impl<'a> Hour<'a> {
         ensures value { λ r. ⌜ r ≡ bid (market-of (now (self .entry .bytes)) .buys) k ⌝ }
         ensures kept { λ r. ⌜ Bid-kept (self .entry .zones) r ⌝ }
     {
+        buy_stands(self.bytes, k);
         bid_from(self.bytes, 7 + 7 * k)
     }
 
@@ -89,6 +98,7 @@ impl<'a> Hour<'a> {
         ensures value { λ r. ⌜ r ≡ bid (market-of (now (self .entry .bytes)) .sells) k ⌝ }
         ensures kept { λ r. ⌜ Bid-kept (self .entry .zones) r ⌝ }
     {
+        sell_stands(self.bytes, k);
         bid_from(self.bytes, 7 + 7 * (self.buys + k))
     }
 
@@ -97,6 +107,7 @@ impl<'a> Hour<'a> {
         ensures value { λ r. ⌜ r ≡ line (market-of (now (self .entry .bytes)) .lines) k ⌝ }
         ensures kept { λ r. ⌜ Line-kept (self .entry .zones) r ⌝ }
     {
+        line_stands(self.bytes, k);
         line_from(self.bytes, 7 + 7 * (self.buys + self.sells) + 5 * k)
     }
 }

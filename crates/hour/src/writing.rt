@@ -1,5 +1,5 @@
 // An hour's bids and lines, written as bytes.
-ghost use mathlib.Core.Bool.{cond, false};
+ghost use mathlib.Core.Bool.{false};
 ghost use mathlib.Core.List.{_++_};
 ghost use mathlib.Core.Path.{_≡_};
 ghost use Prim.Native.Nat.{_+_, _*_, _≤_};
@@ -7,10 +7,9 @@ ghost use lib.ListN.{length, drop};
 ghost use lib.Seq.{paste};
 ghost use Rattle.std.specs.Joined.{joined};
 ghost use Rattle.std.specs.Options.{isSome};
-ghost use Rattle.std.specs.Results.{isOk};
 ghost use Rattle.hour.specs.Bytes.{low-bytes, bid-bytes, line-bytes, head-bytes, bytes-of};
 ghost use Rattle.hour.specs.Rules.{bids-fault, all-lines-fault, shape-fault, item-fault};
-ghost use Rattle.hour.specs.Books.{market-in, size-of, written};
+ghost use Rattle.hour.specs.Books.{market-in, size-of, write-fault, written, left-by};
 use crate::books::Book;
 use crate::items::Bid;
 use crate::items::Line;
@@ -143,27 +142,43 @@ fn check_items(book: Book<'_>) -> Option<Refusal>
     check_all_lines(book.zones, book.buys.len() + book.sells.len(), book.lines)
 }
 
-// Writes an hour that keeps the rules, and answers how many bytes it has. The rules are looked at in the order in which a
-// reader would: the shape, then the lent slice, which has number 0, then the bids and lines. Nothing is written on a refusal.
-pub fn write(book: Book<'_>, out: &mut [u8]) -> Result<usize, Refusal>
-    ensures answer { λ r. ⌜ r ≡ written (market-in (book .entry)) (length (now (out .entry))) ⌝ }
-    ensures bytes { λ r. ⌜ now (out .exit) ≡ cond (isOk r) (bytes-of (market-in (book .entry)) ++ drop (size-of (market-in (book .entry))) (now (out .entry))) (now (out .entry)) ⌝ }
+// Why an hour is not written into a slice of so many bytes, in the order in which a reader would look: the shape, then the
+// lent slice, which has number 0, then the bids and lines.
+fn check_book(book: Book<'_>, lent: usize) -> Option<Refusal>
+    ensures { λ r. ⌜ r ≡ write-fault (market-in (book .entry)) lent ⌝ }
 {
-    if let Some(refusal) = check_shape(book) {
-        return Err(refusal);
+    let fault = check_shape(book);
+    if fault.is_some() {
+        return fault;
     }
+    if lent < 7 + 7 * (book.buys.len() + book.sells.len()) + 5 * book.lines.len() {
+        return Some(Refusal::Lent { slice: 0 });
+    }
+    check_items(book)
+}
+
+// The bytes of an hour at the start of a slice that has room for them.
+fn put_hour(out: &mut [u8], book: Book<'_>) -> usize
+    requires { ⌜ size-of (market-in book) ≤ length (now out) ⌝ }
+    ensures size { λ r. ⌜ r ≡ size-of (market-in (book .entry)) ⌝ }
+    ensures bytes { λ _. ⌜ now (out .exit) ≡ bytes-of (market-in (book .entry)) ++ drop (size-of (market-in (book .entry))) (now (out .entry)) ⌝ }
+{
     let buys = book.buys.len();
-    let sells = book.sells.len();
-    let size = 7 + 7 * (buys + sells) + 5 * book.lines.len();
-    if out.len() < size {
-        return Err(Refusal::Lent { slice: 0 });
-    }
-    if let Some(refusal) = check_items(book) {
-        return Err(refusal);
-    }
+    let bids = buys + book.sells.len();
     put_head(out, book);
     put_bids(out, 7, book.buys);
     put_bids(out, 7 + 7 * buys, book.sells);
-    put_lines(out, 7 + 7 * (buys + sells), book.lines);
-    Ok(size)
+    put_lines(out, 7 + 7 * bids, book.lines);
+    7 + 7 * bids + 5 * book.lines.len()
+}
+
+// Writes an hour that keeps the rules, and answers how many bytes it has. Nothing is written on a refusal.
+pub fn write(book: Book<'_>, out: &mut [u8]) -> Result<usize, Refusal>
+    ensures answer { λ r. ⌜ r ≡ written (market-in (book .entry)) (length (now (out .entry))) ⌝ }
+    ensures bytes { λ r. ⌜ now (out .exit) ≡ left-by (market-in (book .entry)) r (now (out .entry)) ⌝ }
+{
+    if let Some(refusal) = check_book(book, out.len()) {
+        return Err(refusal);
+    }
+    Ok(put_hour(out, book))
 }
