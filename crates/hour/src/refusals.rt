@@ -1,6 +1,6 @@
 // Why an hour is refused: each case holds what it refuses, and where that stands.
 ghost use mathlib.Core.Path.{_≡_};
-ghost use Rattle.hour.specs.Refusals.{number-of, place-of};
+ghost use Rattle.hour.specs.Refusals.{count-place, number-of, place-of};
 
 // The three sorts of an hour's entries.
 #[derive(Clone, Copy, PartialEq, Eq)]
@@ -8,6 +8,19 @@ pub enum Sort {
     Buy,
     Sell,
     Line,
+}
+
+impl Sort {
+    // The byte at which an hour has the count of a sort.
+    fn count_place(self) -> usize
+        ensures { λ r. ⌜ r ≡ count-place self ⌝ }
+    {
+        match self {
+            Sort::Buy => 1,
+            Sort::Sell => 3,
+            Sort::Line => 5,
+        }
+    }
 }
 
 #[derive(Clone, Copy)]
@@ -57,18 +70,7 @@ impl Refusal {
         match *self {
             Refusal::Length { came } => came,
             Refusal::Zones { .. } => 0,
-            Refusal::TooMany {
-                sort: Sort::Buy,
-                ..
-            } => 1,
-            Refusal::TooMany {
-                sort: Sort::Sell,
-                ..
-            } => 3,
-            Refusal::TooMany {
-                sort: Sort::Line,
-                ..
-            } => 5,
+            Refusal::TooMany { sort, .. } => sort.count_place(),
             Refusal::BidZone { at, .. } => at,
             Refusal::BidPrice { at, .. } => at,
             Refusal::BidAmount { at, .. } => at,
