@@ -1,0 +1,4 @@
+pub mod Sum
+pub mod Weighed
+pub mod Market
+pub mod Prices

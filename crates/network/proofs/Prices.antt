@@ -1,0 +1,1 @@
+-- What settled prices promise.
