@@ -1,4 +1,5 @@
 pub mod Sum
 pub mod Weighed
 pub mod Market
+pub mod Content
 pub mod Prices

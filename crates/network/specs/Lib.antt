@@ -1,2 +1,4 @@
 pub mod Network
 pub mod Ways
+pub mod Prices
+pub mod Promises
