@@ -3,3 +3,5 @@ pub mod Weighed
 pub mod Market
 pub mod Content
 pub mod Prices
+pub mod Ways
+pub mod Rest

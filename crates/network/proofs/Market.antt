@@ -55,9 +55,15 @@ within m o f (Buy k) h = f .buys k h
 within m o f (Sell k) h = f .sells k h
 within m o f (Line k) h = f .lines k h
 
+-- what a unit on an arc costs and brings, the nodes' prices counted
+abbrev pub unit-cost : Market → List ℕ → Item → ℕ
+unit-cost m ps i = cost m i + price m ps (tail m i)
+
+abbrev pub unit-value : Market → List ℕ → Item → ℕ
+unit-value m ps i = gain m i + price m ps (head m i)
+
 abbrev pub Content-arc : Market → Outcome → List ℕ → Item → Type 0
-Content-arc m o ps i =
-    Content (capacity m i) (carried o i) (cost m i + price m ps (tail m i)) (gain m i + price m ps (head m i))
+Content-arc m o ps i = Content (capacity m i) (carried o i) (unit-cost m ps i) (unit-value m ps i)
 
 content-same :
     {limit x c v d w : ℕ} → (c ≡ d) × (v ≡ w) → Content limit x c v → Content limit x d w

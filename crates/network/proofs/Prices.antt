@@ -19,15 +19,8 @@ use Rattle.network.specs.declared.arcs.Item.{Item}
 use Rattle.network.proofs.Sum.{sum-add, sum-le, sum-tight}
 use Rattle.network.proofs.Weighed.{weighed-add, weighed-by-node}
 use Rattle.network.proofs.Market.{price-zone, price-hub, tail-below, head-below, within, content-arc, settled-by-arcs}
-use Rattle.network.proofs.Market.{worth-gained, worth-spent, balanced-arcs}
+use Rattle.network.proofs.Market.{worth-gained, worth-spent, balanced-arcs, unit-cost, unit-value}
 use Rattle.network.proofs.Content.{content-highest, content-tight}
-
--- what a unit on an arc costs and brings, the nodes' prices counted
-abbrev pub unit-cost : Market → List ℕ → Item → ℕ
-unit-cost m ps i = cost m i + price m ps (tail m i)
-
-abbrev pub unit-value : Market → List ℕ → Item → ℕ
-unit-value m ps i = gain m i + price m ps (head m i)
 
 -- Idea: sum the flows by node; at a zone as much comes in as goes out, and the hub's price is 0.
 pub level :
