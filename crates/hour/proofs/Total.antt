@@ -55,11 +55,11 @@ pub total-change :
     (n k : ℕ) (f g : ℕ → ℕ) → k < n → ((j : ℕ) → j ≢ k → g j ≡ f j) → total n g + f k ≡ total n f + g k
 total-change zero k f g l others = omega arith
 total-change (suc n) k f g l others =
-    elim (cases-eq k n)
-    [ inl e ↦
-      let same = total-same n g f (λ j h. others j (omega arith)) in
-      omega (arith, ap f e, ap g e)
-    | inr ne ↦ omega (arith, total-change n k f g (omega arith) others, others n (omega arith))
+    elim (cases-eq k n) [
+      | inl e ↦
+          let same = total-same n g f (λ j h. others j (omega arith)) in
+          omega (arith, ap f e, ap g e)
+      | inr ne ↦ omega (arith, total-change n k f g (omega arith) others, others n (omega arith))
     ]
 
 -- a number picked out by its place

@@ -25,10 +25,10 @@ swap-lt p q x y better larger =
 pub content-highest :
     (limit x cost value : ℕ) → x ≤ limit → Content limit x cost value → Highest limit x cost value
 content-highest limit x cost value within c y h =
-    elim (cases-order cost value)
-    [ inl e ↦ omega (arith, ap (λ n. n * x) e, ap (λ n. n * y) e)
-    | inr (inl l) ↦ swap value cost x y (omega arith) (omega (arith, c .whole l))
-    | inr (inr l) ↦ omega (arith, swap cost value y x (omega arith) (omega (arith, c .none l)))
+    elim (cases-order cost value) [
+      | inl e ↦ omega (arith, ap (λ n. n * x) e, ap (λ n. n * y) e)
+      | inr (inl l) ↦ swap value cost x y (omega arith) (omega (arith, c .whole l))
+      | inr (inr l) ↦ omega (arith, swap cost value y x (omega arith) (omega (arith, c .none l)))
     ]
 
 -- an amount whose surplus is the same as that of a content one is content too
@@ -36,13 +36,13 @@ pub content-tight :
     (limit x y cost value : ℕ) → Content limit x cost value → y ≤ limit →
     value * y + cost * x ≡ value * x + cost * y → Content limit y cost value
 content-tight limit x y cost value c within even =
-    record
-    { whole = λ l. elim (cases-lt y limit)
-      [ inl less ↦ omega (arith, swap-lt value cost x y l (omega (arith, c .whole l)))
-      | inr more ↦ omega arith
-      ]
-    ; none = λ l. elim (cases-lt 0 y)
-      [ inl some ↦ omega (arith, swap-lt cost value y x l (omega (arith, c .none l)))
-      | inr none ↦ omega arith
-      ]
+    record {
+      whole = λ l. elim (cases-lt y limit) [
+        | inl less ↦ omega (arith, swap-lt value cost x y l (omega (arith, c .whole l)))
+        | inr more ↦ omega arith
+      ];
+      none = λ l. elim (cases-lt 0 y) [
+        | inl some ↦ omega (arith, swap-lt cost value y x l (omega (arith, c .none l)))
+        | inr none ↦ omega arith
+      ];
     }

@@ -5,3 +5,4 @@ pub mod Content
 pub mod Prices
 pub mod Ways
 pub mod Rest
+pub mod Hours

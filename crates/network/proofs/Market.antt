@@ -103,10 +103,10 @@ pub settled-by-arcs :
     (m : Market) (o : Outcome) (ps : List ℕ) → Proper m → ((i : Item) → Among m i → Content-arc m o ps i) →
     Settled m o ps
 settled-by-arcs m o ps p c =
-    record
-    { buys = λ k h. content-same (back (buy-unit m ps p k h)) (c (Buy k) h)
-    ; sells = λ k h. content-same (back (sell-unit m ps p k h)) (c (Sell k) h)
-    ; lines = λ k h. content-same (back (line-unit m ps p k h)) (c (Line k) h)
+    record {
+      buys = λ k h. content-same (back (buy-unit m ps p k h)) (c (Buy k) h);
+      sells = λ k h. content-same (back (sell-unit m ps p k h)) (c (Sell k) h);
+      lines = λ k h. content-same (back (line-unit m ps p k h)) (c (Line k) h);
     }
 
 -- what an outcome is worth is what its arcs gain less what they cost
@@ -123,22 +123,22 @@ pub inflow-zone :
     (m : Market) (o : Outcome) (z : ℕ) → z < m .zones →
     inflow m o z ≡ in-zone z (m .sells) (o .sold) + into z (m .lines) (o .flow)
 inflow-zone m o z h =
-    omega
-    ( arith
-    , elsewhere (length (m .buys)) (hub m) z (at (o .bought)) (omega arith)
-    , tagged-weighed (length (m .sells)) (λ k. bid (m .sells) k .zone) z (at (o .sold))
-    , tagged-weighed (length (m .lines)) (λ k. line (m .lines) k .to) z (at (o .flow))
+    omega (
+      arith,
+      elsewhere (length (m .buys)) (hub m) z (at (o .bought)) (omega arith),
+      tagged-weighed (length (m .sells)) (λ k. bid (m .sells) k .zone) z (at (o .sold)),
+      tagged-weighed (length (m .lines)) (λ k. line (m .lines) k .to) z (at (o .flow)),
     )
 
 pub outflow-zone :
     (m : Market) (o : Outcome) (z : ℕ) → z < m .zones →
     outflow m o z ≡ in-zone z (m .buys) (o .bought) + out-of z (m .lines) (o .flow)
 outflow-zone m o z h =
-    omega
-    ( arith
-    , elsewhere (length (m .sells)) (hub m) z (at (o .sold)) (omega arith)
-    , tagged-weighed (length (m .buys)) (λ k. bid (m .buys) k .zone) z (at (o .bought))
-    , tagged-weighed (length (m .lines)) (λ k. line (m .lines) k .from) z (at (o .flow))
+    omega (
+      arith,
+      elsewhere (length (m .sells)) (hub m) z (at (o .sold)) (omega arith),
+      tagged-weighed (length (m .buys)) (λ k. bid (m .buys) k .zone) z (at (o .bought)),
+      tagged-weighed (length (m .lines)) (λ k. line (m .lines) k .from) z (at (o .flow)),
     )
 
 pub balanced-arcs :
@@ -149,9 +149,9 @@ pub feasible-by-arcs :
     (m : Market) (o : Outcome) → ((i : Item) → Among m i → carried o i ≤ capacity m i) →
     ((z : ℕ) → z < m .zones → inflow m o z ≡ outflow m o z) → Feasible m o
 feasible-by-arcs m o limits balance =
-    record
-    { buys = λ k. limits (Buy k)
-    ; sells = λ k. limits (Sell k)
-    ; lines = λ k. limits (Line k)
-    ; balance = λ z h. sym (inflow-zone m o z h) ∙ balance z h ∙ outflow-zone m o z h
+    record {
+      buys = λ k. limits (Buy k);
+      sells = λ k. limits (Sell k);
+      lines = λ k. limits (Line k);
+      balance = λ z h. sym (inflow-zone m o z h) ∙ balance z h ∙ outflow-zone m o z h;
     }

@@ -33,11 +33,11 @@ level m o ps p f =
   where
     at-node : (z : ℕ) → z < hub m + 1 → price m ps z * inflow m o z ≡ price m ps z * outflow m o z
     at-node z h =
-        elim (cases-eq z (hub m))
-        [ inl e ↦
-          let none : price m ps z ≡ 0 = ap (price m ps) e ∙ price-hub m ps in
-          ap (λ n. n * inflow m o z) none ∙ zero-mul _ ∙ sym (ap (λ n. n * outflow m o z) none ∙ zero-mul _)
-        | inr ne ↦ ap (λ n. price m ps z * n) (balanced-arcs m o f z (omega arith))
+        elim (cases-eq z (hub m)) [
+          | inl e ↦
+              let none : price m ps z ≡ 0 = ap (price m ps) e ∙ price-hub m ps in
+              ap (λ n. n * inflow m o z) none ∙ zero-mul _ ∙ sym (ap (λ n. n * outflow m o z) none ∙ zero-mul _)
+          | inr ne ↦ ap (λ n. price m ps z * n) (balanced-arcs m o f z (omega arith))
         ]
 
 -- the surpluses of p less those of o are what p is worth less what o is worth
@@ -48,14 +48,14 @@ pub surplus-worth :
 surplus-worth m o p ps proper f g =
     let heads : Item → ℕ = λ i. price m ps (head m i) in
     let tails : Item → ℕ = λ i. price m ps (tail m i) in
-    omega
-    ( arith
-    , weighed-add m (gain m) heads o
-    , weighed-add m (gain m) heads p
-    , weighed-add m (cost m) tails o
-    , weighed-add m (cost m) tails p
-    , level m o ps proper f
-    , level m p ps proper g
+    omega (
+      arith,
+      weighed-add m (gain m) heads o,
+      weighed-add m (gain m) heads p,
+      weighed-add m (cost m) tails o,
+      weighed-add m (cost m) tails p,
+      level m o ps proper f,
+      level m p ps proper g,
     )
 
 -- one item's surplus in p on the left, in o on the right
@@ -77,49 +77,49 @@ best-arcs :
     (m : Market) (o p : Outcome) (ps : List ℕ) → Proper m → Feasible m o → Settled m o ps → Feasible m p →
     gained m p + spent m o ≤ gained m o + spent m p
 best-arcs m o p ps proper f s g =
-    omega
-    ( arith
-    , sum-le m _ _ (surplus-le m o p ps proper f s g)
-    , sum-lower m ps o p
-    , sum-lower m ps p o
-    , surplus-worth m o p ps proper f g
+    omega (
+      arith,
+      sum-le m _ _ (surplus-le m o p ps proper f s g),
+      sum-lower m ps o p,
+      sum-lower m ps p o,
+      surplus-worth m o p ps proper f g,
     )
 
 -- Idea: each item's surplus at the prices is highest in o; summed up, the prices cancel, since every zone is in balance.
 pub best : Best
 best m o p ps proper f s g =
-    omega
-    ( arith
-    , best-arcs m o p ps proper f s g
-    , worth-gained m o
-    , worth-gained m p
-    , worth-spent m o
-    , worth-spent m p
+    omega (
+      arith,
+      best-arcs m o p ps proper f s g,
+      worth-gained m o,
+      worth-gained m p,
+      worth-spent m o,
+      worth-spent m p,
     )
 
 -- Idea: both outcomes are worth the same, so at qs each item's surplus in o is that in p, the highest.
 pub exchange : Exchange
 exchange m o p ps qs proper f g s t =
     settled-by-arcs m o qs proper (λ i h.
-      content-tight _ (carried p i) (carried o i) _ _ (content-arc m p qs proper t i h) (within m o f i h)
-        (sum-tight m (lower m qs p o) (lower m qs o p) (surplus-le m p o qs proper g t f) sums i h))
+    content-tight _ (carried p i) (carried o i) _ _ (content-arc m p qs proper t i h) (within m o f i h)
+    (sum-tight m (lower m qs p o) (lower m qs o p) (surplus-le m p o qs proper g t f) sums i h))
   where
     sums : sum m (lower m qs o p) ≤ sum m (lower m qs p o)
     sums =
-        omega
-        ( arith
-        , best-arcs m o p ps proper f s g
-        , sum-lower m qs o p
-        , sum-lower m qs p o
-        , surplus-worth m o p qs proper f g
+        omega (
+          arith,
+          best-arcs m o p ps proper f s g,
+          sum-lower m qs o p,
+          sum-lower m qs p o,
+          surplus-worth m o p qs proper f g,
         )
 
 pub no-regret : No-regret
 no-regret m o ps f s =
-    record
-    { buys = λ k h. content-highest _ _ _ _ (f .buys k h) (s .buys k h)
-    ; sells = λ k h. content-highest _ _ _ _ (f .sells k h) (s .sells k h)
-    ; lines = λ k h. content-highest _ _ _ _ (f .lines k h) (s .lines k h)
+    record {
+      buys = λ k h. content-highest _ _ _ _ (f .buys k h) (s .buys k h);
+      sells = λ k h. content-highest _ _ _ _ (f .sells k h) (s .sells k h);
+      lines = λ k h. content-highest _ _ _ _ (f .lines k h) (s .lines k h);
     }
 
 priced :
@@ -134,37 +134,37 @@ unpriced m ps n x =
 -- Idea: the prices at the heads sum up to those at the tails; a line's surplus is at least that of no flow.
 pub even : Even
 even m o ps proper f s =
-    record
-    { even =
-        omega
-        ( arith
-        , level m o ps proper f
-        , unpriced m ps (length (m .buys)) (at (o .bought))
-        , unpriced m ps (length (m .sells)) (at (o .sold))
-        , priced m ps (length (m .buys)) (λ k. bid (m .buys) k .zone) (at (o .bought)) (proper .buys)
-        , priced m ps (length (m .sells)) (λ k. bid (m .sells) k .zone) (at (o .sold)) (proper .sells)
-        , priced m ps (length (m .lines)) (λ k. line (m .lines) k .from) (at (o .flow)) (proper .from)
-        , priced m ps (length (m .lines)) (λ k. line (m .lines) k .to) (at (o .flow)) (proper .to)
-        )
-    ; lines = λ k h.
-        let begin = at ps (line (m .lines) k .from) in
-        let end = at ps (line (m .lines) k .to) in
-        omega (arith, no-regret m o ps f s .lines k h 0 (omega arith), mul-zero begin, mul-zero end)
+    record {
+      even =
+          omega (
+            arith,
+            level m o ps proper f,
+            unpriced m ps (length (m .buys)) (at (o .bought)),
+            unpriced m ps (length (m .sells)) (at (o .sold)),
+            priced m ps (length (m .buys)) (λ k. bid (m .buys) k .zone) (at (o .bought)) (proper .buys),
+            priced m ps (length (m .sells)) (λ k. bid (m .sells) k .zone) (at (o .sold)) (proper .sells),
+            priced m ps (length (m .lines)) (λ k. line (m .lines) k .from) (at (o .flow)) (proper .from),
+            priced m ps (length (m .lines)) (λ k. line (m .lines) k .to) (at (o .flow)) (proper .to),
+          );
+      lines = λ k h.
+          let begin = at ps (line (m .lines) k .from) in
+          let end = at ps (line (m .lines) k .to) in
+          omega (arith, no-regret m o ps f s .lines k h 0 (omega arith), mul-zero begin, mul-zero end);
     }
 
 -- Idea: two lists that are each at or below the other are one; by exchange, what settles any outcome settles this one.
 pub one-lowest : One-lowest
 one-lowest m proper =
-    record
-    { agree = agree
-    ; same = λ ps qs n k p q. ext-getD 0 ps qs (n ∙ sym k) (λ z h. agree ps qs p q z (omega arith))
-    ; any = λ o ps f low.
-        record
-        { outcome = o
-        ; feasible = f
-        ; settled = low .settled
-        ; below = λ p qs g t. low .below qs (exchange m o p ps qs proper f g (low .settled) t)
-        }
+    record {
+      agree = agree;
+      same = λ ps qs n k p q. ext-getD 0 ps qs (n ∙ sym k) (λ z h. agree ps qs p q z (omega arith));
+      any = λ o ps f low.
+          record {
+            outcome = o;
+            feasible = f;
+            settled = low .settled;
+            below = λ p qs g t. low .below qs (exchange m o p ps qs proper f g (low .settled) t);
+          };
     }
   where
     agree : (ps qs : List ℕ) → Lowest m ps → Lowest m qs → (z : ℕ) → z < m .zones → at ps z ≡ at qs z

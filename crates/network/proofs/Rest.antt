@@ -36,15 +36,15 @@ settled-at-rest m o ps proper f rest = settled-by-arcs m o ps proper content
     content : (i : Item) → Among m i → Content-arc m o ps i
     content i h =
         let limit = within m o f i h in
-        record
-        { whole = λ l. elim (cases-lt (carried o i) (capacity m i))
-          [ inl less ↦ omega (arith, rest (Forward i) (record { among = h; room = omega arith }))
-          | inr full ↦ omega arith
-          ]
-        ; none = λ l. elim (cases-lt 0 (carried o i))
-          [ inl some ↦ omega (arith, rest (Backward i) (record { among = h; room = some }))
-          | inr none ↦ omega arith
-          ]
+        record {
+          whole = λ l. elim (cases-lt (carried o i) (capacity m i)) [
+            | inl less ↦ omega (arith, rest (Forward i) (record { among = h; room = omega arith }))
+            | inr full ↦ omega arith
+          ];
+          none = λ l. elim (cases-lt 0 (carried o i)) [
+            | inl some ↦ omega (arith, rest (Backward i) (record { among = h; room = some }))
+            | inr none ↦ omega arith
+          ];
         }
 
 -- Idea: add up what the steps' ends and beginnings are worth; between the ends all cancel.
@@ -53,27 +53,27 @@ pub free-way-le :
     All (Free m o) ss → price m ps b + way-gain m ss ≤ price m ps a + way-cost m ss
 free-way-le m o ps rest a [] b links free = omega (arith, ap (price m ps) links)
 free-way-le m o ps rest a (s ∷ ss) b links free =
-    omega
-    ( arith
-    , free-way-le m o ps rest (finish m s) ss b (links .1) (free .1)
-    , rest s (free .0)
-    , ap (price m ps) (links .0)
+    omega (
+      arith,
+      free-way-le m o ps rest (finish m s) ss b (links .1) (free .1),
+      rest s (free .0),
+      ap (price m ps) (links .0),
     )
 
 pub at-rest : At-rest
 at-rest m o ps proper f =
-    record
-    { settles = settled-at-rest m o ps proper f
-    ; rests = resting m o ps proper
-    ; below = λ reached qs s z h. elim (reached z h)
-      [ inl none ↦ omega arith
-      | inr way ↦
-        omega
-        ( arith
-        , free-way-le m o qs (resting m o qs proper s) z (way .steps) (hub m) (way .links) (way .free)
-        , way .worth
-        , price-zone m qs z h
-        , price-hub m qs
-        )
-      ]
+    record {
+      settles = settled-at-rest m o ps proper f;
+      rests = resting m o ps proper;
+      below = λ reached qs s z h. elim (reached z h) [
+        | inl none ↦ omega arith
+        | inr way ↦
+            omega (
+              arith,
+              free-way-le m o qs (resting m o qs proper s) z (way .steps) (hub m) (way .links) (way .free),
+              way .worth,
+              price-zone m qs z h,
+              price-hub m qs,
+            )
+      ];
     }

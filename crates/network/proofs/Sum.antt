@@ -15,11 +15,11 @@ use Rattle.network.specs.declared.arcs.Item.the-variants.{Buy, Sell, Line}
 module _ (m : Market) where
   pub sum-add : (f g : Item → ℕ) → sum m (λ i. f i + g i) ≡ sum m f + sum m g
   sum-add f g =
-      omega
-      ( arith
-      , total-add (length (m .buys)) (λ k. f (Buy k)) (λ k. g (Buy k))
-      , total-add (length (m .sells)) (λ k. f (Sell k)) (λ k. g (Sell k))
-      , total-add (length (m .lines)) (λ k. f (Line k)) (λ k. g (Line k))
+      omega (
+        arith,
+        total-add (length (m .buys)) (λ k. f (Buy k)) (λ k. g (Buy k)),
+        total-add (length (m .sells)) (λ k. f (Sell k)) (λ k. g (Sell k)),
+        total-add (length (m .lines)) (λ k. f (Line k)) (λ k. g (Line k)),
       )
 
   pub sum-scale : (c : ℕ) (f : Item → ℕ) → sum m (λ i. c * f i) ≡ c * sum m f
@@ -27,31 +27,31 @@ module _ (m : Market) where
       let b = total (length (m .buys)) (λ k. f (Buy k)) in
       let s = total (length (m .sells)) (λ k. f (Sell k)) in
       let l = total (length (m .lines)) (λ k. f (Line k)) in
-      omega
-      ( arith
-      , total-scale (length (m .buys)) c (λ k. f (Buy k))
-      , total-scale (length (m .sells)) c (λ k. f (Sell k))
-      , total-scale (length (m .lines)) c (λ k. f (Line k))
-      , mul-add c (b + s) l
-      , mul-add c b s
+      omega (
+        arith,
+        total-scale (length (m .buys)) c (λ k. f (Buy k)),
+        total-scale (length (m .sells)) c (λ k. f (Sell k)),
+        total-scale (length (m .lines)) c (λ k. f (Line k)),
+        mul-add c (b + s) l,
+        mul-add c b s,
       )
 
   pub sum-same : (f g : Item → ℕ) → ((i : Item) → Among m i → f i ≡ g i) → sum m f ≡ sum m g
   sum-same f g same =
-      omega
-      ( arith
-      , total-same (length (m .buys)) (λ k. f (Buy k)) (λ k. g (Buy k)) (λ k. same (Buy k))
-      , total-same (length (m .sells)) (λ k. f (Sell k)) (λ k. g (Sell k)) (λ k. same (Sell k))
-      , total-same (length (m .lines)) (λ k. f (Line k)) (λ k. g (Line k)) (λ k. same (Line k))
+      omega (
+        arith,
+        total-same (length (m .buys)) (λ k. f (Buy k)) (λ k. g (Buy k)) (λ k. same (Buy k)),
+        total-same (length (m .sells)) (λ k. f (Sell k)) (λ k. g (Sell k)) (λ k. same (Sell k)),
+        total-same (length (m .lines)) (λ k. f (Line k)) (λ k. g (Line k)) (λ k. same (Line k)),
       )
 
   pub sum-le : (f g : Item → ℕ) → ((i : Item) → Among m i → f i ≤ g i) → sum m f ≤ sum m g
   sum-le f g le =
-      omega
-      ( arith
-      , total-le (length (m .buys)) (λ k. f (Buy k)) (λ k. g (Buy k)) (λ k. le (Buy k))
-      , total-le (length (m .sells)) (λ k. f (Sell k)) (λ k. g (Sell k)) (λ k. le (Sell k))
-      , total-le (length (m .lines)) (λ k. f (Line k)) (λ k. g (Line k)) (λ k. le (Line k))
+      omega (
+        arith,
+        total-le (length (m .buys)) (λ k. f (Buy k)) (λ k. g (Buy k)) (λ k. le (Buy k)),
+        total-le (length (m .sells)) (λ k. f (Sell k)) (λ k. g (Sell k)) (λ k. le (Sell k)),
+        total-le (length (m .lines)) (λ k. f (Line k)) (λ k. g (Line k)) (λ k. le (Line k)),
       )
 
   -- sums that are equal, of parts in order, have equal parts
@@ -62,10 +62,10 @@ module _ (m : Market) where
       let b = total-le (length (m .buys)) (λ k. f (Buy k)) (λ k. g (Buy k)) (λ k. le (Buy k)) in
       let s = total-le (length (m .sells)) (λ k. f (Sell k)) (λ k. g (Sell k)) (λ k. le (Sell k)) in
       let l = total-le (length (m .lines)) (λ k. f (Line k)) (λ k. g (Line k)) (λ k. le (Line k)) in
-      elim
-      [ Buy k ↦ total-tight (length (m .buys)) (λ k. f (Buy k)) (λ k. g (Buy k)) (λ k. le (Buy k)) (omega arith) k
-      | Sell k ↦ total-tight (length (m .sells)) (λ k. f (Sell k)) (λ k. g (Sell k)) (λ k. le (Sell k)) (omega arith) k
-      | Line k ↦ total-tight (length (m .lines)) (λ k. f (Line k)) (λ k. g (Line k)) (λ k. le (Line k)) (omega arith) k
+      elim [
+        | Buy k ↦ total-tight (length (m .buys)) (λ k. f (Buy k)) (λ k. g (Buy k)) (λ k. le (Buy k)) (omega arith) k
+        | Sell k ↦ total-tight (length (m .sells)) (λ k. f (Sell k)) (λ k. g (Sell k)) (λ k. le (Sell k)) (omega arith) k
+        | Line k ↦ total-tight (length (m .lines)) (λ k. f (Line k)) (λ k. g (Line k)) (λ k. le (Line k)) (omega arith) k
       ]
 
   -- a sum over items and a sum by index change places
@@ -75,11 +75,11 @@ module _ (m : Market) where
       let b : ℕ → ℕ = λ z. total (length (m .buys)) (λ k. f (Buy k) z) in
       let s : ℕ → ℕ = λ z. total (length (m .sells)) (λ k. f (Sell k) z) in
       let l : ℕ → ℕ = λ z. total (length (m .lines)) (λ k. f (Line k) z) in
-      omega
-      ( arith
-      , total-total (length (m .buys)) n (λ k z. f (Buy k) z)
-      , total-total (length (m .sells)) n (λ k z. f (Sell k) z)
-      , total-total (length (m .lines)) n (λ k z. f (Line k) z)
-      , total-add n (λ z. b z + s z) l
-      , total-add n b s
+      omega (
+        arith,
+        total-total (length (m .buys)) n (λ k z. f (Buy k) z),
+        total-total (length (m .sells)) n (λ k z. f (Sell k) z),
+        total-total (length (m .lines)) n (λ k z. f (Line k) z),
+        total-add n (λ z. b z + s z) l,
+        total-add n b s,
       )

@@ -26,9 +26,9 @@ put-carries :
     (sort : ℕ → Item) (xs : List ℕ) (k x j : ℕ) →
     ((sort k ≡ sort j) × (at (put xs k x) j ≡ x)) ⊎ (at (put xs k x) j ≡ at xs j)
 put-carries sort xs k x j =
-    elim (cases-eq j k)
-    [ inl e ↦ inl (ap sort (sym e), ap (at (put xs k x)) e ∙ at-put-same xs k x)
-    | inr ne ↦ inr (at-put-other xs k x j ne)
+    elim (cases-eq j k) [
+      | inl e ↦ inl (ap sort (sym e), ap (at (put xs k x)) e ∙ at-put-same xs k x)
+      | inr ne ↦ inr (at-put-other xs k x j ne)
     ]
 
 carries : (o : Outcome) (i : Item) (x : ℕ) (j : Item) → Carries o i x j
@@ -81,9 +81,9 @@ Within m o = (i : Item) → Among m i → carried o i ≤ capacity m i
 
 within-moved : (m : Market) (o : Outcome) (d : ℕ) (s : Step) → Within m o → Fits m o d s → Within m (moved o s d)
 within-moved m o d (Forward i) limits f j h =
-    elim (carries o i (carried o i + d) j)
-    [ inl (e, is) ↦ omega (arith, f .fits, limits i (f .among), ap (capacity m) e)
-    | inr same ↦ omega (arith, limits j h)
+    elim (carries o i (carried o i + d) j) [
+      | inl (e, is) ↦ omega (arith, f .fits, limits i (f .among), ap (capacity m) e)
+      | inr same ↦ omega (arith, limits j h)
     ]
 within-moved m o d (Backward i) limits f j h =
     elim (carries o i (carried o i - d) j)
@@ -95,7 +95,7 @@ pub within-pushed :
 within-pushed m d [] o limits once fits = limits
 within-pushed m d (s ∷ ss) o limits once fits =
     within-pushed m d ss (moved o s d) (within-moved m o d s limits (fits .0)) (once .1)
-      (fits-rest m o d s ss (once .0) (fits .1))
+    (fits-rest m o d s ss (once .0) (fits .1))
 
 -- the weights of the items that steps raise, and of those that they lower
 abbrev up : (Item → ℕ) → Step → ℕ
@@ -128,12 +128,12 @@ pub weighed-pushed :
     weighed m w (pushed o ss d) + lowered w ss * d ≡ weighed m w o + raised w ss * d
 weighed-pushed m w d [] o once fits = refl
 weighed-pushed m w d (s ∷ ss) o once fits =
-    omega
-    ( arith
-    , weighed-moved m w o d s (fits .0)
-    , weighed-pushed m w d ss (moved o s d) (once .1) (fits-rest m o d s ss (once .0) (fits .1))
-    , add-mul (up w s) (raised w ss) d
-    , add-mul (down w s) (lowered w ss) d
+    omega (
+      arith,
+      weighed-moved m w o d s (fits .0),
+      weighed-pushed m w d ss (moved o s d) (once .1) (fits-rest m o d s ss (once .0) (fits .1)),
+      add-mul (up w s) (raised w ss) d,
+      add-mul (down w s) (lowered w ss) d,
     )
 
 pub way-cost-weights : (m : Market) (ss : List Step) → way-cost m ss ≡ raised (cost m) ss + lowered (gain m) ss
@@ -161,39 +161,40 @@ linked-weights m φ a (Backward i ∷ ss) b links =
 pub push : Push
 push m o a d ss f links once fits =
     let p = pushed o ss d in
-    record
-    { feasible = feasible-by-arcs m p (within-pushed m d ss o (within m o f) once fits) balance
-    ; changes = changes
-    ; rises = λ some pays. omega (arith, changes, mul-le-mul-right d pays, add-mul (way-cost m ss) 1 d)
+    record {
+      feasible = feasible-by-arcs m p (within-pushed m d ss o (within m o f) once fits) balance;
+      changes = changes;
+      rises = λ some pays. omega (arith, changes, mul-le-mul-right d pays, add-mul (way-cost m ss) 1 d);
     }
   where
     balance : (z : ℕ) → z < m .zones → inflow m (pushed o ss d) z ≡ outflow m (pushed o ss d) z
     balance z h =
         let heads : Item → ℕ = λ i. tag (head m i) z in
         let tails : Item → ℕ = λ i. tag (tail m i) z in
-        omega
-        ( arith
-        , weighed-pushed m heads d ss o once fits
-        , weighed-pushed m tails d ss o once fits
-        , balanced-arcs m o f z h
-        , ap (λ n. n * d) (linked-weights m (λ v. tag v z) a ss a links)
-        , add-mul (raised heads ss + lowered tails ss) (tag a z) d
-        , add-mul (raised heads ss) (lowered tails ss) d
-        , add-mul (raised tails ss + lowered heads ss) (tag a z) d
-        , add-mul (raised tails ss) (lowered heads ss) d
+        omega (
+          arith,
+          weighed-pushed m heads d ss o once fits,
+          weighed-pushed m tails d ss o once fits,
+          balanced-arcs m o f z h,
+          ap (λ n. n * d) (linked-weights m (λ v. tag v z) a ss a links),
+          add-mul (raised heads ss + lowered tails ss) (tag a z) d,
+          add-mul (raised heads ss) (lowered tails ss) d,
+          add-mul (raised tails ss + lowered heads ss) (tag a z) d,
+          add-mul (raised tails ss) (lowered heads ss) d,
         )
+
     changes :
         worth (m .buys) (pushed o ss d .bought) + worth (m .sells) (o .sold) + way-cost m ss * d
         ≡ worth (m .buys) (o .bought) + worth (m .sells) (pushed o ss d .sold) + way-gain m ss * d
     changes =
-        omega
-        ( arith
-        , weighed-pushed m (gain m) d ss o once fits
-        , weighed-pushed m (cost m) d ss o once fits
-        , ap (λ n. n * d) (way-cost-weights m ss) ∙ add-mul (raised (cost m) ss) (lowered (gain m) ss) d
-        , ap (λ n. n * d) (way-gain-weights m ss) ∙ add-mul (raised (gain m) ss) (lowered (cost m) ss) d
-        , worth-gained m o
-        , worth-gained m (pushed o ss d)
-        , worth-spent m o
-        , worth-spent m (pushed o ss d)
+        omega (
+          arith,
+          weighed-pushed m (gain m) d ss o once fits,
+          weighed-pushed m (cost m) d ss o once fits,
+          ap (λ n. n * d) (way-cost-weights m ss) ∙ add-mul (raised (cost m) ss) (lowered (gain m) ss) d,
+          ap (λ n. n * d) (way-gain-weights m ss) ∙ add-mul (raised (gain m) ss) (lowered (cost m) ss) d,
+          worth-gained m o,
+          worth-gained m (pushed o ss d),
+          worth-spent m o,
+          worth-spent m (pushed o ss d),
         )

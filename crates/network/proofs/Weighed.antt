@@ -43,6 +43,7 @@ weighed-by-node m o n key φ below =
   where
     tagged-once : (v z x : ℕ) → cond (eqb v z) (φ z * x) 0 ≡ φ z * (tag v z * x)
     tagged-once v z x = sym (ap (λ y. φ z * y) (cond-mul (eqb v z) x) ∙ mul-cond (eqb v z) (φ z) x)
+
     spread :
         (i : Item) → Among m i → φ (key i) * carried o i ≡ total n (λ z. φ z * (tag (key i) z * carried o i))
     spread i h =
@@ -76,11 +77,11 @@ total-put :
     total n (λ j. v j * at (put xs k x) j) + v k * at xs k ≡ total n (λ j. v j * at xs j) + v k * x
 total-put n v xs k x h =
     let others : (j : ℕ) → j ≢ k → v j * at (put xs k x) j ≡ v j * at xs j =
-      λ j ne. ap (λ y. v j * y) (at-put-other xs k x j ne) in
-    omega
-    ( arith
-    , total-change n k (λ j. v j * at xs j) (λ j. v j * at (put xs k x) j) h others
-    , ap (λ y. v k * y) (at-put-same xs k x)
+    λ j ne. ap (λ y. v j * y) (at-put-other xs k x j ne) in
+    omega (
+      arith,
+      total-change n k (λ j. v j * at xs j) (λ j. v j * at (put xs k x) j) h others,
+      ap (λ y. v k * y) (at-put-same xs k x),
     )
 
 pub weighed-carry :

@@ -1,4 +1,5 @@
 pub mod Network
 pub mod Ways
 pub mod Prices
+pub mod Hours
 pub mod Promises

@@ -49,10 +49,10 @@ pub record No-regrets (m : Market) (o : Outcome) (ps : List ℕ) : Type 0 where
   pub lines :
       (k : ℕ) → k < length (m .lines) →
       Highest
-        (line (m .lines) k .capacity)
-        (at (o .flow) k)
-        (at ps (line (m .lines) k .from))
-        (at ps (line (m .lines) k .to))
+      (line (m .lines) k .capacity)
+      (at (o .flow) k)
+      (at ps (line (m .lines) k .from))
+      (at ps (line (m .lines) k .to))
 
 pub record Lowest-of (m : Market) (o : Outcome) (ps : List ℕ) : Type 0 where
   pub settled : Settled m o ps

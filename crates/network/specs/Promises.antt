@@ -8,16 +8,18 @@
 --   Push             along a closed way an amount that fits keeps all limits and balances, and changes the worth by the
 --                    amount times what the way gains less what it costs
 --   At-rest          prices that no free step can raise settle; prices that free ways to the hub are worth are the lowest
+--   Worked-hours     the worked hours come out as written
 --
 -- Of two sides of an order, what is subtracted stands on the other side: naturals only.
 use mathlib.Core.Path.{_≡_}
-use mathlib.Core.List.{List}
+use mathlib.Core.List.{List, [], _∷_}
 use Prim.Native.Nat.{ℕ, _+_, _*_, _≤_, _<_}
 use lib.ListN.{length}
 use Rattle.hour.specs.Market.{Market, Outcome, Proper, Feasible, Settled, at, worth}
 use Rattle.std.specs.shelf.Lists.{All}
 use Rattle.network.specs.declared.arcs.Step.{Step}
 use Rattle.network.specs.Ways.{Links, Once, Fits, way-cost, way-gain, pushed, Resting, Reached}
+use Rattle.network.specs.Hours.{Holds, narrow, wide, in-part, tied, unsold, apart, one-each, traded}
 use Rattle.network.specs.Prices.{Money-even, No-regrets, Lowest-of, Lowest}
 
 abbrev pub Best : Type 0
@@ -69,3 +71,15 @@ pub record Rest-settles (m : Market) (o : Outcome) (ps : List ℕ) : Type 0 wher
 
 abbrev pub At-rest : Type 0
 At-rest = (m : Market) (o : Outcome) (ps : List ℕ) → Proper m → Feasible m o → Rest-settles m o ps
+
+pub record Hours-worked : Type 0 where
+  pub narrow : Holds narrow
+  pub wide : Holds wide
+  pub in-part : Holds in-part
+  pub tied : (n : ℕ) → n ≤ 10 → Holds (tied n)
+  pub unsold : Holds unsold
+  pub apart : Holds apart
+  pub between : (p : ℕ) → 12 ≤ p → p ≤ 30 → Settled (one-each 12) (traded 10) (p ∷ [])
+
+abbrev pub Worked-hours : Type 0
+Worked-hours = Hours-worked

@@ -1,4 +1,6 @@
 // The market as a network: bids and lines are arcs between zones and one hub.
-mod arcs;
+pub mod arcs;
+pub mod promises;
+
 pub use arcs::Item;
 pub use arcs::Step;
