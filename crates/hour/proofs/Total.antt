@@ -5,9 +5,13 @@ use mathlib.Core.Logic.{_≢_, inl, inr}
 use Prim.Native.Nat.{ℕ, zero, suc, _+_, _*_, _≤_, _<_}
 use native.Mathlib.Nat.{mul-add, mul-zero}
 use native.Mathlib.Omega.{arith}
+use native.Mathlib.Numerals.{add-one}
 use lib.Dec.{eqb}
+use lib.ListN.{length, getD}
 use borrow.Author.Tests.{eq-eqb, ne-eqb}
 use Rattle.std.proofs.shelf.Tests.{cases-eq}
+use Rattle.std.proofs.shelf.Counted.{length-map-counting, getD-map-counting}
+use Rattle.hour.specs.Listed.{listed}
 use Rattle.hour.specs.Total.{total}
 
 pub total-add : (n : ℕ) (f g : ℕ → ℕ) → total n (λ k. f k + g k) ≡ total n f + total n g
@@ -68,3 +72,25 @@ total-pick n k f l =
     let here : cond (eqb k k) (f k) 0 ≡ f k = rw (eq-eqb k k refl) in
     let others : (j : ℕ) → j ≢ k → cond (eqb k j) (f j) 0 ≡ 0 = λ j ne. rw (ne-eqb k j (λ e. ne (sym e))) in
     omega (arith, total-change n k (λ j. 0) (λ j. cond (eqb k j) (f j) 0) l others, total-none n)
+
+-- one more, as a loop has it
+pub total-more : (n : ℕ) (f : ℕ → ℕ) → total (n + 1) f ≡ total n f + f n
+total-more n f = rw add-one
+
+-- a part is no more than the whole
+pub total-part : (k n : ℕ) (f : ℕ → ℕ) → k ≤ n → total k f ≤ total n f
+total-part k zero f h = omega (arith, ap (λ j. total j f) (n-zero k h))
+  where
+    n-zero : (k : ℕ) → k ≤ 0 → k ≡ 0
+    n-zero k h = omega arith
+total-part k (suc n) f h =
+    elim (cases-eq k (suc n))
+    [ inl e ↦ omega (arith, ap (λ j. total j f) e) | inr ne ↦ omega (arith, total-part k n f (omega arith)) ]
+
+-- a sum over a list that is made by its places
+pub total-listed :
+    {A : Type 0} (n : ℕ) (f : ℕ → A) (d : A) (h : ℕ → A → ℕ) →
+    total (length (listed n f)) (λ k. h k (getD (listed n f) k d)) ≡ total n (λ k. h k (f k))
+total-listed n f d h =
+    ap (λ j. total j (λ k. h k (getD (listed n f) k d))) (length-map-counting f 0 n)
+    ∙ total-same n _ _ (λ k l. ap (h k) (getD-map-counting f 0 n k k d l (omega arith)))

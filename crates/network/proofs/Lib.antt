@@ -6,3 +6,4 @@ pub mod Prices
 pub mod Ways
 pub mod Rest
 pub mod Hours
+pub mod Rows

@@ -3,3 +3,4 @@ pub mod Ways
 pub mod Prices
 pub mod Hours
 pub mod Promises
+pub mod Tables
