@@ -8,6 +8,8 @@ use lib.Dec.{lit<}
 use lib.ListN.{length}
 use Rattle.std.proofs.shelf.Tests.{cases-eq, cases-lt}
 use Rattle.hour.specs.Market.{Market, Outcome, Proper, Feasible, Settled, Content, Balanced, at, bid, line, worth}
+use Rattle.network.specs.Network.{Content-item}
+use Rattle.network.specs.declared.arcs.Item.the-variants.{Buy, Sell, Line}
 use Rattle.network.specs.Prices.{Lowest, Lowest-of}
 use Rattle.network.specs.Hours.{Row, Holds, narrow, wide, in-part, tied, unsold, apart, one-each, traded}
 use Rattle.network.specs.Promises.{Worked-hours}
@@ -35,25 +37,10 @@ record Checked-outcome (m : Market) (o : Outcome) : Type 0 where
   lines : Every (length (m .lines)) (λ k. at (o .flow) k ≤ line (m .lines) k .capacity)
   balance : Every (m .zones) (Balanced m o)
 
-abbrev Content-buy : Market → Outcome → List ℕ → ℕ → Type 0
-Content-buy m o ps k =
-    let b = bid (m .buys) k in
-    Content (b .amount) (at (o .bought) k) (at ps (b .zone)) (b .price)
-
-abbrev Content-sell : Market → Outcome → List ℕ → ℕ → Type 0
-Content-sell m o ps k =
-    let s = bid (m .sells) k in
-    Content (s .amount) (at (o .sold) k) (s .price) (at ps (s .zone))
-
-abbrev Content-line : Market → Outcome → List ℕ → ℕ → Type 0
-Content-line m o ps k =
-    let l = line (m .lines) k in
-    Content (l .capacity) (at (o .flow) k) (at ps (l .from)) (at ps (l .to))
-
 record Checked-prices (m : Market) (o : Outcome) (ps : List ℕ) : Type 0 where
-  buys : Every (length (m .buys)) (Content-buy m o ps)
-  sells : Every (length (m .sells)) (Content-sell m o ps)
-  lines : Every (length (m .lines)) (Content-line m o ps)
+  buys : Every (length (m .buys)) (λ k. Content-item m o ps (Buy k))
+  sells : Every (length (m .sells)) (λ k. Content-item m o ps (Sell k))
+  lines : Every (length (m .lines)) (λ k. Content-item m o ps (Line k))
 
 settled : (m : Market) (o : Outcome) (ps : List ℕ) → Checked-prices m o ps → Settled m o ps
 settled m o ps c =

@@ -7,3 +7,4 @@ pub mod Ways
 pub mod Rest
 pub mod Hours
 pub mod Rows
+pub mod Items

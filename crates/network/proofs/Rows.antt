@@ -5,16 +5,17 @@ use mathlib.Core.List.{List}
 use Prim.Native.Nat.{ℕ, _+_, _*_, _≤_, _<_}
 use native.Mathlib.Omega.{arith}
 use lib.Dec.{eqb}
+use lib.ListN.{length}
 use borrow.Author.Tests.{eq-eqb, ne-eqb}
+use Rattle.std.proofs.shelf.Counted.{length-map-counting, getD-map-counting}
+use Rattle.std.proofs.shelf.Lists.{getD-past}
 use Rattle.std.proofs.shelf.Tests.{cond-true, cond-false}
 use Rattle.hour.specs.Total.{total, tagged}
-use Rattle.hour.specs.Market.{at, worth, in-zone, into, out-of}
+use Rattle.hour.specs.declared.items.Bid.{Bid}
+use Rattle.hour.specs.Market.{at, bid, line, worth, in-zone, into, out-of}
 use Rattle.hour.proofs.Total.{total-listed, total-more, total-part}
-use Rattle.network.specs.Tables.{cell, items, bids-in, lines-in}
-
-pub worth-in :
-    (t xs : List ℕ) → worth (bids-in t) xs ≡ total (items t) (λ k. cell t k 1 * at xs k)
-worth-in t xs = total-listed (items t) _ _ (λ k b. b .price * at xs k)
+use Rattle.network.specs.Tables.{cell, items, bids-in, lines-in, market-in}
+use Rattle.network.proofs.Items.{Counts}
 
 pub in-zone-in :
     (t xs : List ℕ) (z : ℕ) → in-zone z (bids-in t) xs ≡ tagged (items t) (λ k. cell t k 0) z (at xs)
@@ -28,20 +29,33 @@ pub into-in :
     (t fs : List ℕ) (z : ℕ) → into z (lines-in t) fs ≡ tagged (items t) (λ k. cell t k 1) z (at fs)
 into-in t fs z = total-listed (items t) _ _ (λ k l. cond (eqb (l .to) z) (at fs k) 0)
 
+pub length-bids-in : (t : List ℕ) → length (bids-in t) ≡ items t
+length-bids-in t = length-map-counting _ 0 (items t)
+
+pub length-lines-in : (t : List ℕ) → length (lines-in t) ≡ items t
+length-lines-in t = length-map-counting _ 0 (items t)
+
+pub counts-in :
+    (zones : ℕ) (buys sells lines : List ℕ) →
+    Counts (market-in zones buys sells lines) (items buys) (items sells) (items lines)
+counts-in zones buys sells lines = (length-bids-in buys, length-bids-in sells, length-lines-in lines)
+
 -- the worth of the first n bids, and a loop over them: one more, a part, and all
-abbrev pub worth-to : List ℕ → List ℕ → ℕ → ℕ
-worth-to t xs n = total n (λ k. cell t k 1 * at xs k)
+abbrev pub worth-to : List Bid → List ℕ → ℕ → ℕ
+worth-to bs xs n = total n (λ k. bid bs k .price * at xs k)
 
 pub worth-more :
-    (t xs : List ℕ) (k p x : ℕ) → p ≡ cell t k 1 → x ≡ at xs k → worth-to t xs (k + 1) ≡ worth-to t xs k + p * x
-worth-more t xs k p x price amount =
-    omega (arith, total-more k (λ j. cell t j 1 * at xs j), ap₂ (λ a b. a * b) price amount)
+    (bs : List Bid) (xs : List ℕ) (k x : ℕ) (b : Bid) → b ≡ bid bs k → x ≡ at xs k →
+    worth-to bs xs (k + 1) ≡ worth-to bs xs k + b .price * x
+worth-more bs xs k x b is amount =
+    omega (arith, total-more k (λ j. bid bs j .price * at xs j), ap₂ (λ c y. c .price * y) is amount)
 
-pub worth-part : (t xs : List ℕ) (k : ℕ) → k < items t → worth-to t xs (k + 1) ≤ worth (bids-in t) xs
-worth-part t xs k h = omega (arith, worth-in t xs, total-part (k + 1) (items t) (λ j. cell t j 1 * at xs j) (omega arith))
+pub worth-part : (t xs : List ℕ) (k : ℕ) → k < items t → worth-to (bids-in t) xs (k + 1) ≤ worth (bids-in t) xs
+worth-part t xs k h =
+    total-part (k + 1) (length (bids-in t)) (λ j. bid (bids-in t) j .price * at xs j) (omega (arith, length-bids-in t))
 
-pub worth-all : (t xs : List ℕ) (k : ℕ) → k ≡ items t → worth-to t xs k ≡ worth (bids-in t) xs
-worth-all t xs k e = ap (worth-to t xs) e ∙ sym (worth-in t xs)
+pub worth-all : (t xs : List ℕ) (k : ℕ) → k ≡ items t → worth-to (bids-in t) xs k ≡ worth (bids-in t) xs
+worth-all t xs k e = ap (worth-to (bids-in t) xs) (e ∙ sym (length-bids-in t))
 
 -- the amounts with the zone among the first n items
 abbrev pub tagged-to : List ℕ → List ℕ → ℕ → ℕ → ℕ → ℕ
@@ -64,3 +78,24 @@ pub tagged-other :
 tagged-other t xs c z k v key other =
     let passed = cond-false (eqb (cell t k c) z) (at xs k) 0 (ne-eqb (cell t k c) z (λ e. other (key ∙ e))) in
     omega (arith, tagged-more t xs c z k)
+
+-- items read from a table, and past its end
+pub bid-read :
+    (t : List ℕ) (k z p a : ℕ) → k < items t → z ≡ cell t k 0 → p ≡ cell t k 1 → a ≡ cell t k 2 →
+    record { zone = z; price = p; amount = a } ≡ bid (bids-in t) k
+bid-read t k z p a h zone price amount =
+    (λ i. record { zone = zone i; price = price i; amount = amount i })
+    ∙ sym (getD-map-counting _ 0 (items t) k k _ h (omega arith))
+
+pub bid-past : (t : List ℕ) (k : ℕ) → items t ≤ k → record { zone = 0; price = 0; amount = 0 } ≡ bid (bids-in t) k
+bid-past t k h = sym (getD-past (bids-in t) k _ (omega (arith, length-bids-in t)))
+
+pub line-read :
+    (t : List ℕ) (k a b c : ℕ) → k < items t → a ≡ cell t k 0 → b ≡ cell t k 1 → c ≡ cell t k 2 →
+    record { from = a; to = b; capacity = c } ≡ line (lines-in t) k
+line-read t k a b c h from to capacity =
+    (λ i. record { from = from i; to = to i; capacity = capacity i })
+    ∙ sym (getD-map-counting _ 0 (items t) k k _ h (omega arith))
+
+pub line-past : (t : List ℕ) (k : ℕ) → items t ≤ k → record { from = 0; to = 0; capacity = 0 } ≡ line (lines-in t) k
+line-past t k h = sym (getD-past (lines-in t) k _ (omega (arith, length-lines-in t)))

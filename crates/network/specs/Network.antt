@@ -2,6 +2,8 @@
 --
 --   Item              a buy, a sell or a line, by its number among its sort
 --   Among m i         i is an item of m
+--   nth b s k         item k of all: b buys first, then s sells, then lines
+--   Content-item      what Settled says of the item
 --   hub m             a node beside the zones: every sell comes from it, every buy goes to it
 --   tail, head        the nodes where an arc begins and ends: a buy goes from its zone to the hub, a sell from the hub to
 --                     its zone, a line from zone to zone
@@ -17,11 +19,11 @@
 -- The base has no cost or gain on a line; whatever is proved of arcs holds with them too.
 use mathlib.Core.Bool.{cond}
 use mathlib.Core.List.{List}
-use Prim.Native.Nat.{ℕ, _+_, _*_, _<_}
+use Prim.Native.Nat.{ℕ, _+_, _-_, _*_, _<_}
 use lib.Dec.{eqb, ltb}
 use lib.ListN.{length}
 use Rattle.hour.specs.Total.{total}
-use Rattle.hour.specs.Market.{Market, Outcome, at, bid, line}
+use Rattle.hour.specs.Market.{Market, Outcome, Content, at, bid, line}
 use Rattle.network.specs.declared.arcs.Item.{Item}
 use Rattle.network.specs.declared.arcs.Item.the-variants.{Buy, Sell, Line}
 
@@ -29,6 +31,20 @@ abbrev pub Among : Market → Item → Type 0
 Among m (Buy k) = k < length (m .buys)
 Among m (Sell k) = k < length (m .sells)
 Among m (Line k) = k < length (m .lines)
+
+abbrev pub nth : ℕ → ℕ → ℕ → Item
+nth b s k = cond (ltb k b) (Buy k) (cond (ltb (k - b) s) (Sell (k - b)) (Line (k - b - s)))
+
+abbrev pub Content-item : Market → Outcome → List ℕ → Item → Type 0
+Content-item m o ps (Buy k) =
+    let b = bid (m .buys) k in
+    Content (b .amount) (at (o .bought) k) (at ps (b .zone)) (b .price)
+Content-item m o ps (Sell k) =
+    let s = bid (m .sells) k in
+    Content (s .amount) (at (o .sold) k) (s .price) (at ps (s .zone))
+Content-item m o ps (Line k) =
+    let l = line (m .lines) k in
+    Content (l .capacity) (at (o .flow) k) (at ps (l .from)) (at ps (l .to))
 
 abbrev pub hub : Market → ℕ
 hub m = m .zones

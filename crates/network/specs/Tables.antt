@@ -5,13 +5,14 @@
 --   bids-in t        the bids of a table: zone, price, amount
 --   lines-in t       the lines of a table: from, to, capacity
 --   market-in        the market of so many zones with these tables of buys, sells and lines
+--   outcome-in       the outcome with these lists of amounts and flows
 use mathlib.Core.List.{List}
 use Prim.Native.Nat.{ℕ, _+_, _*_, _/_}
 use lib.ListN.{length}
 use Rattle.hour.specs.Listed.{listed}
 use Rattle.hour.specs.declared.items.Bid.{Bid}
 use Rattle.hour.specs.declared.items.Line.{Line}
-use Rattle.hour.specs.Market.{Market, at}
+use Rattle.hour.specs.Market.{Market, Outcome, at}
 
 abbrev pub cell : List ℕ → ℕ → ℕ → ℕ
 cell t k c = at t (3 * k + c)
@@ -28,3 +29,6 @@ lines-in t = listed (items t) (λ k. record { from = cell t k 0; to = cell t k 1
 abbrev pub market-in : ℕ → List ℕ → List ℕ → List ℕ → Market
 market-in zones buys sells lines =
     record { zones = zones; buys = bids-in buys; sells = bids-in sells; lines = lines-in lines }
+
+abbrev pub outcome-in : List ℕ → List ℕ → List ℕ → Outcome
+outcome-in bought sold flow = record { bought = bought; sold = sold; flow = flow }

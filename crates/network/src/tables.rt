@@ -5,8 +5,10 @@ ghost use Prim.Native.Nat.{ℕ, _+_, _*_, _^_, _<_, _≤_};
 ghost use Rattle.std.specs.Numbers.{Checked};
 ghost use Rattle.std.specs.Options.{Cases};
 ghost use Rattle.hour.specs.Total.{tagged};
-ghost use Rattle.hour.specs.Market.{at, in-zone, into, out-of, worth};
+ghost use Rattle.hour.specs.Market.{at, bid, line, in-zone, into, out-of, worth};
 ghost use Rattle.network.specs.Tables.{cell, items, bids-in, lines-in};
+use hour::Bid;
+use hour::Line;
 
 const FIRST: usize = 0;
 
@@ -36,11 +38,48 @@ pub fn number_at(xs: &[u64], k: usize) -> u64
     if k < xs.len() { xs[k] } else { 0 }
 }
 
-pub fn cell(table: &[u64], item: usize, column: usize) -> u64
+fn cell(table: &[u64], item: usize, column: usize) -> u64
     requires { ⌜ item < items (now table) ⌝ ∗ ⌜ column < 3 ⌝ }
     ensures { λ r. ⌜ r ≡ cell (now (table .entry)) item column ⌝ }
 {
     table[3 * item + column]
+}
+
+// Past the end of the table all numbers of an item are 0.
+pub fn bid_at(table: &[u64], k: usize) -> Bid
+    ensures { λ r. ⌜ r ≡ bid (bids-in (now (table .entry))) k ⌝ }
+{
+    if k < table.len() / 3 {
+        Bid {
+            zone: cell(table, k, FIRST),
+            price: cell(table, k, SECOND),
+            amount: cell(table, k, THIRD),
+        }
+    } else {
+        Bid {
+            zone: 0,
+            price: 0,
+            amount: 0,
+        }
+    }
+}
+
+pub fn line_at(table: &[u64], k: usize) -> Line
+    ensures { λ r. ⌜ r ≡ line (lines-in (now (table .entry))) k ⌝ }
+{
+    if k < table.len() / 3 {
+        Line {
+            from: cell(table, k, FIRST),
+            to: cell(table, k, SECOND),
+            capacity: cell(table, k, THIRD),
+        }
+    } else {
+        Line {
+            from: 0,
+            to: 0,
+            capacity: 0,
+        }
+    }
 }
 
 // What amounts are worth at the prices of their bids; none where that is too large for 128 bits.
@@ -53,7 +92,7 @@ pub fn bids_worth(bids: &[u64], amounts: &[u64]) -> Option<u128>
 {
     let mut sum: u128 = 0;
     for k in 0..bids.len() / 3 {
-        let value = cell(bids, k, SECOND) as u128 * number_at(amounts, k) as u128;
+        let value = bid_at(bids, k).price as u128 * number_at(amounts, k) as u128;
         let Some(more) = sum.checked_add(value) else {
             return None;
         };
