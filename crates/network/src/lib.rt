@@ -6,3 +6,6 @@ pub mod tables;
 
 pub use arcs::Item;
 pub use arcs::Step;
+
+#[cfg(test)]
+mod tests;

@@ -101,6 +101,33 @@ pub fn bids_worth(bids: &[u64], amounts: &[u64]) -> Option<u128>
     Some(sum)
 }
 
+// What an outcome is worth: `gained` less `spent`.
+#[derive(Clone, Copy)]
+pub struct Worth {
+    pub gained: u128,
+    pub spent: u128,
+}
+
+// None where what is bought or what is sold is worth too much for 128 bits.
+pub fn worth_of(t: Tables, o: Amounts) -> Option<Worth>
+    ensures { λ r.
+        ⌜ Cases
+        r
+        (worth (bids-in (now (t .entry .buys))) (now (o .entry .bought)) < 2 ^ 128 →
+        worth (bids-in (now (t .entry .sells))) (now (o .entry .sold)) < 2 ^ 128 → ⊥)
+        (λ w.
+        (w .gained ≡ worth (bids-in (now (t .entry .buys))) (now (o .entry .bought)))
+        × (w .spent ≡ worth (bids-in (now (t .entry .sells))) (now (o .entry .sold)))) ⌝ }
+{
+    let Some(gained) = bids_worth(t.buys, o.bought) else {
+        return None;
+    };
+    let Some(spent) = bids_worth(t.sells, o.sold) else {
+        return None;
+    };
+    Some(Worth { gained, spent })
+}
+
 // The amounts of those items, together, that have the zone in a column.
 fn tagged_sum(table: &[u64], column: usize, zone: u64, amounts: &[u64]) -> u128
     requires { ⌜ column < 3 ⌝ }
