@@ -80,12 +80,9 @@ fn content_item(t: Tables, o: Amounts, prices: &[u64], item: Item) -> bool
         }
         Item::Line(k) => {
             let l = line_at(t.lines, k);
-            content(
-                l.capacity,
-                number_at(o.flow, k),
-                number_at(prices, l.from as usize),
-                number_at(prices, l.to as usize),
-            )
+            let begin = number_at(prices, l.from as usize);
+            let end = number_at(prices, l.to as usize);
+            content(l.capacity, number_at(o.flow, k), begin, end)
         }
     }
 }
