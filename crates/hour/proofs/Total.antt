@@ -79,10 +79,9 @@ total-more n f = rw add-one
 
 -- a part is no more than the whole
 pub total-part : (k n : ℕ) (f : ℕ → ℕ) → k ≤ n → total k f ≤ total n f
-total-part k zero f h = omega (arith, ap (λ j. total j f) (n-zero k h))
-  where
-    n-zero : (k : ℕ) → k ≤ 0 → k ≡ 0
-    n-zero k h = omega arith
+total-part k zero f h =
+    let none : k ≡ 0 = omega arith in
+    omega (arith, ap (λ j. total j f) none)
 total-part k (suc n) f h =
     elim (cases-eq k (suc n))
     [ inl e ↦ omega (arith, ap (λ j. total j f) e) | inr ne ↦ omega (arith, total-part k n f (omega arith)) ]

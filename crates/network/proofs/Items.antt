@@ -15,6 +15,7 @@ use Rattle.hour.specs.Market.{Market, Outcome, Settled}
 use Rattle.network.specs.Network.{Among, nth, Content-item}
 use Rattle.network.specs.declared.arcs.Item.{Item}
 use Rattle.network.specs.declared.arcs.Item.the-variants.{Buy, Sell, Line}
+use Rattle.network.proofs.Market.{settled-item}
 
 pub nth-buy : (b s k : ℕ) → k < b → nth b s k ≡ Buy k
 nth-buy b s k h = rw (lt-ltb k b h)
@@ -31,11 +32,6 @@ nth-line b s k j e =
     let past-sells = le-ltb (k - b) s (omega arith) in
     let place : k - b - s ≡ j = omega arith in
     rw (past, past-sells, place)
-
-pub settled-item : (m : Market) (o : Outcome) (ps : List ℕ) → Settled m o ps → (i : Item) → Among m i → Content-item m o ps i
-settled-item m o ps s (Buy k) h = s .buys k h
-settled-item m o ps s (Sell k) h = s .sells k h
-settled-item m o ps s (Line k) h = s .lines k h
 
 -- the numbers of buys, sells and lines of m are b, s and l
 abbrev pub Counts : Market → ℕ → ℕ → ℕ → Type 0

@@ -10,11 +10,11 @@ use lib.Dec.{eqb, ltb}
 use lib.ListN.{length}
 use borrow.Author.Tests.{lt-ltb, le-ltb, ne-eqb}
 use Rattle.hour.specs.Total.{total, tagged}
-use Rattle.hour.specs.Market.{Market, Outcome, Proper, Feasible, Settled, Content, at, bid, line, worth}
+use Rattle.hour.specs.Market.{Market, Outcome, Proper, Feasible, Settled, at, bid, line, worth}
 use Rattle.hour.specs.Market.{in-zone, into, out-of}
 use Rattle.hour.proofs.Total.{total-same, total-none}
 use Rattle.network.specs.Network.{Among, hub, tail, head, capacity, cost, gain, carried, weighed, tag, price}
-use Rattle.network.specs.Network.{inflow, outflow, gained, spent}
+use Rattle.network.specs.Network.{inflow, outflow, gained, spent, unit-cost, unit-value, Content-item}
 use Rattle.network.specs.declared.arcs.Item.{Item}
 use Rattle.network.specs.declared.arcs.Item.the-variants.{Buy, Sell, Line}
 use Rattle.network.proofs.Weighed.{cond-mul}
@@ -55,59 +55,25 @@ within m o f (Buy k) h = f .buys k h
 within m o f (Sell k) h = f .sells k h
 within m o f (Line k) h = f .lines k h
 
--- what a unit on an arc costs and brings, the nodes' prices counted
-abbrev pub unit-cost : Market → List ℕ → Item → ℕ
-unit-cost m ps i = cost m i + price m ps (tail m i)
+pub settled-item :
+    (m : Market) (o : Outcome) (ps : List ℕ) → Settled m o ps → (i : Item) → Among m i → Content-item m o ps i
+settled-item m o ps s (Buy k) h = s .buys k h
+settled-item m o ps s (Sell k) h = s .sells k h
+settled-item m o ps s (Line k) h = s .lines k h
 
-abbrev pub unit-value : Market → List ℕ → Item → ℕ
-unit-value m ps i = gain m i + price m ps (head m i)
+pub settled-by-item :
+    (m : Market) (o : Outcome) (ps : List ℕ) → ((i : Item) → Among m i → Content-item m o ps i) → Settled m o ps
+settled-by-item m o ps c = record { buys = λ k. c (Buy k); sells = λ k. c (Sell k); lines = λ k. c (Line k) }
 
-abbrev pub Content-arc : Market → Outcome → List ℕ → Item → Type 0
-Content-arc m o ps i = Content (capacity m i) (carried o i) (unit-cost m ps i) (unit-value m ps i)
-
-content-same :
-    {limit x c v d w : ℕ} → (c ≡ d) × (v ≡ w) → Content limit x c v → Content limit x d w
-content-same same s = record { whole = λ l. s .whole (omega arith); none = λ l. s .none (omega arith) }
-
--- on an arc a unit costs and brings what the market says of the bid or the line
-buy-unit :
-    (m : Market) (ps : List ℕ) → Proper m → (k : ℕ) → k < length (m .buys) →
-    (at ps (bid (m .buys) k .zone) ≡ 0 + price m ps (bid (m .buys) k .zone))
-    × (bid (m .buys) k .price ≡ bid (m .buys) k .price + price m ps (hub m))
-buy-unit m ps p k h = omega (arith, price-zone m ps (bid (m .buys) k .zone) (p .buys k h), price-hub m ps)
-
-sell-unit :
-    (m : Market) (ps : List ℕ) → Proper m → (k : ℕ) → k < length (m .sells) →
-    (bid (m .sells) k .price ≡ bid (m .sells) k .price + price m ps (hub m))
-    × (at ps (bid (m .sells) k .zone) ≡ 0 + price m ps (bid (m .sells) k .zone))
-sell-unit m ps p k h = omega (arith, price-zone m ps (bid (m .sells) k .zone) (p .sells k h), price-hub m ps)
-
-line-unit :
-    (m : Market) (ps : List ℕ) → Proper m → (k : ℕ) → k < length (m .lines) →
-    (at ps (line (m .lines) k .from) ≡ 0 + price m ps (line (m .lines) k .from))
-    × (at ps (line (m .lines) k .to) ≡ 0 + price m ps (line (m .lines) k .to))
-line-unit m ps p k h =
+-- what a unit costs and brings is what it does on its own, and the prices where its arc begins and ends
+pub unit-arc :
+    (m : Market) (ps : List ℕ) → Proper m → (i : Item) → Among m i →
+    (unit-cost m ps i ≡ cost m i + price m ps (tail m i)) × (unit-value m ps i ≡ gain m i + price m ps (head m i))
+unit-arc m ps p (Buy k) h = omega (arith, price-zone m ps (tail m (Buy k)) (p .buys k h), price-hub m ps)
+unit-arc m ps p (Sell k) h = omega (arith, price-zone m ps (head m (Sell k)) (p .sells k h), price-hub m ps)
+unit-arc m ps p (Line k) h =
     omega
-    (arith, price-zone m ps (line (m .lines) k .from) (p .from k h), price-zone m ps (line (m .lines) k .to) (p .to k h))
-
-back : {a b c d : ℕ} → (a ≡ b) × (c ≡ d) → (b ≡ a) × (d ≡ c)
-back e = (sym (e .0), sym (e .1))
-
-pub content-arc :
-    (m : Market) (o : Outcome) (ps : List ℕ) → Proper m → Settled m o ps → (i : Item) → Among m i → Content-arc m o ps i
-content-arc m o ps p s (Buy k) h = content-same (buy-unit m ps p k h) (s .buys k h)
-content-arc m o ps p s (Sell k) h = content-same (sell-unit m ps p k h) (s .sells k h)
-content-arc m o ps p s (Line k) h = content-same (line-unit m ps p k h) (s .lines k h)
-
-pub settled-by-arcs :
-    (m : Market) (o : Outcome) (ps : List ℕ) → Proper m → ((i : Item) → Among m i → Content-arc m o ps i) →
-    Settled m o ps
-settled-by-arcs m o ps p c =
-    record {
-      buys = λ k h. content-same (back (buy-unit m ps p k h)) (c (Buy k) h);
-      sells = λ k h. content-same (back (sell-unit m ps p k h)) (c (Sell k) h);
-      lines = λ k h. content-same (back (line-unit m ps p k h)) (c (Line k) h);
-    }
+    (arith, price-zone m ps (tail m (Line k)) (p .from k h), price-zone m ps (head m (Line k)) (p .to k h))
 
 -- what an outcome is worth is what its arcs gain less what they cost
 pub worth-gained : (m : Market) (o : Outcome) → worth (m .buys) (o .bought) ≡ gained m o

@@ -12,14 +12,14 @@ use Rattle.hour.specs.Total.{total}
 use Rattle.hour.specs.Market.{Market, Outcome, Proper, Feasible, Settled, at, bid, line}
 use Rattle.hour.proofs.Total.{total-same, total-none}
 use Rattle.network.specs.Network.{Among, hub, tail, head, cost, gain, carried, sum, weighed, price}
-use Rattle.network.specs.Network.{inflow, outflow, gained, spent}
+use Rattle.network.specs.Network.{inflow, outflow, gained, spent, unit-cost, unit-value}
 use Rattle.network.specs.Prices.{Lowest}
 use Rattle.network.specs.Promises.{Best, Even, No-regret, Exchange, One-lowest}
 use Rattle.network.specs.declared.arcs.Item.{Item}
 use Rattle.network.proofs.Sum.{sum-add, sum-le, sum-tight}
-use Rattle.network.proofs.Weighed.{weighed-add, weighed-by-node}
-use Rattle.network.proofs.Market.{price-zone, price-hub, tail-below, head-below, within, content-arc, settled-by-arcs}
-use Rattle.network.proofs.Market.{worth-gained, worth-spent, balanced-arcs, unit-cost, unit-value}
+use Rattle.network.proofs.Weighed.{weighed-add, weighed-same, weighed-by-node}
+use Rattle.network.proofs.Market.{price-zone, price-hub, tail-below, head-below, within, settled-item, settled-by-item}
+use Rattle.network.proofs.Market.{unit-arc, worth-gained, worth-spent, balanced-arcs}
 use Rattle.network.proofs.Content.{content-highest, content-tight}
 
 -- Idea: sum the flows by node; at a zone as much comes in as goes out, and the hub's price is 0.
@@ -50,6 +50,10 @@ surplus-worth m o p ps proper f g =
     let tails : Item → ℕ = λ i. price m ps (tail m i) in
     omega (
       arith,
+      weighed-same m (unit-value m ps) (λ i. gain m i + heads i) o (λ i h. unit-arc m ps proper i h .1),
+      weighed-same m (unit-value m ps) (λ i. gain m i + heads i) p (λ i h. unit-arc m ps proper i h .1),
+      weighed-same m (unit-cost m ps) (λ i. cost m i + tails i) o (λ i h. unit-arc m ps proper i h .0),
+      weighed-same m (unit-cost m ps) (λ i. cost m i + tails i) p (λ i h. unit-arc m ps proper i h .0),
       weighed-add m (gain m) heads o,
       weighed-add m (gain m) heads p,
       weighed-add m (cost m) tails o,
@@ -63,10 +67,10 @@ abbrev lower : Market → List ℕ → Outcome → Outcome → Item → ℕ
 lower m ps o p i = unit-value m ps i * carried p i + unit-cost m ps i * carried o i
 
 surplus-le :
-    (m : Market) (o p : Outcome) (ps : List ℕ) → Proper m → Feasible m o → Settled m o ps → Feasible m p →
+    (m : Market) (o p : Outcome) (ps : List ℕ) → Feasible m o → Settled m o ps → Feasible m p →
     (i : Item) → Among m i → lower m ps o p i ≤ lower m ps p o i
-surplus-le m o p ps proper f s g i h =
-    content-highest _ _ _ _ (within m o f i h) (content-arc m o ps proper s i h) (carried p i) (within m p g i h)
+surplus-le m o p ps f s g i h =
+    content-highest _ _ _ _ (within m o f i h) (settled-item m o ps s i h) (carried p i) (within m p g i h)
 
 sum-lower :
     (m : Market) (ps : List ℕ) (o p : Outcome) →
@@ -79,7 +83,7 @@ best-arcs :
 best-arcs m o p ps proper f s g =
     omega (
       arith,
-      sum-le m _ _ (surplus-le m o p ps proper f s g),
+      sum-le m _ _ (surplus-le m o p ps f s g),
       sum-lower m ps o p,
       sum-lower m ps p o,
       surplus-worth m o p ps proper f g,
@@ -100,9 +104,9 @@ best m o p ps proper f s g =
 -- Idea: both outcomes are worth the same, so at qs each item's surplus in o is that in p, the highest.
 pub exchange : Exchange
 exchange m o p ps qs proper f g s t =
-    settled-by-arcs m o qs proper (λ i h.
-    content-tight _ (carried p i) (carried o i) _ _ (content-arc m p qs proper t i h) (within m o f i h)
-    (sum-tight m (lower m qs p o) (lower m qs o p) (surplus-le m p o qs proper g t f) sums i h))
+    settled-by-item m o qs (λ i h.
+    content-tight _ (carried p i) (carried o i) _ _ (settled-item m p qs t i h) (within m o f i h)
+    (sum-tight m (lower m qs p o) (lower m qs o p) (surplus-le m p o qs g t f) sums i h))
   where
     sums : sum m (lower m qs o p) ≤ sum m (lower m qs p o)
     sums =

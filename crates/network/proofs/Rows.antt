@@ -14,19 +14,19 @@ use Rattle.hour.specs.Total.{total, tagged}
 use Rattle.hour.specs.declared.items.Bid.{Bid}
 use Rattle.hour.specs.Market.{at, bid, line, worth, in-zone, into, out-of}
 use Rattle.hour.proofs.Total.{total-listed, total-more, total-part}
-use Rattle.network.specs.Tables.{cell, items, bids-in, lines-in, market-in}
+use Rattle.network.specs.Tables.{cell, items, bids-in, lines-in, market-in, zone-total}
 use Rattle.network.proofs.Items.{Counts}
 
 pub in-zone-in :
-    (t xs : List ℕ) (z : ℕ) → in-zone z (bids-in t) xs ≡ tagged (items t) (λ k. cell t k 0) z (at xs)
+    (t xs : List ℕ) (z : ℕ) → in-zone z (bids-in t) xs ≡ zone-total t 0 z xs
 in-zone-in t xs z = total-listed (items t) _ _ (λ k b. cond (eqb (b .zone) z) (at xs k) 0)
 
 pub out-of-in :
-    (t fs : List ℕ) (z : ℕ) → out-of z (lines-in t) fs ≡ tagged (items t) (λ k. cell t k 0) z (at fs)
+    (t fs : List ℕ) (z : ℕ) → out-of z (lines-in t) fs ≡ zone-total t 0 z fs
 out-of-in t fs z = total-listed (items t) _ _ (λ k l. cond (eqb (l .from) z) (at fs k) 0)
 
 pub into-in :
-    (t fs : List ℕ) (z : ℕ) → into z (lines-in t) fs ≡ tagged (items t) (λ k. cell t k 1) z (at fs)
+    (t fs : List ℕ) (z : ℕ) → into z (lines-in t) fs ≡ zone-total t 1 z fs
 into-in t fs z = total-listed (items t) _ _ (λ k l. cond (eqb (l .to) z) (at fs k) 0)
 
 pub length-bids-in : (t : List ℕ) → length (bids-in t) ≡ items t

@@ -17,6 +17,10 @@ use Rattle.network.specs.declared.arcs.Item.{Item}
 use Rattle.network.specs.declared.arcs.Item.the-variants.{Buy, Sell, Line}
 use Rattle.network.proofs.Sum.{sum-add, sum-scale, sum-same, sum-total}
 
+pub weighed-same :
+    (m : Market) (v w : Item → ℕ) (o : Outcome) → ((i : Item) → Among m i → v i ≡ w i) → weighed m v o ≡ weighed m w o
+weighed-same m v w o same = sum-same m _ _ (λ i h. ap (λ u. u * carried o i) (same i h))
+
 pub weighed-add :
     (m : Market) (v w : Item → ℕ) (o : Outcome) → weighed m (λ i. v i + w i) o ≡ weighed m v o + weighed m w o
 weighed-add m v w o =

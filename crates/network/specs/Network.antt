@@ -3,7 +3,6 @@
 --   Item              a buy, a sell or a line, by its number among its sort
 --   Among m i         i is an item of m
 --   nth b s k         item k of all: b buys first, then s sells, then lines
---   Content-item      what Settled says of the item
 --   hub m             a node beside the zones: every sell comes from it, every buy goes to it
 --   tail, head        the nodes where an arc begins and ends: a buy goes from its zone to the hub, a sell from the hub to
 --                     its zone, a line from zone to zone
@@ -15,6 +14,8 @@
 --   inflow, outflow   what o carries into a node, and out of it
 --   gained, spent     what o gains and what it costs
 --   price m ps n      a node's price: that of its zone, and 0 for the hub
+--   unit-cost         what a unit of an item costs at the prices ps; unit-value what it brings
+--   Content-item      what Settled says of the item
 --
 -- The base has no cost or gain on a line; whatever is proved of arcs holds with them too.
 use mathlib.Core.Bool.{cond}
@@ -34,17 +35,6 @@ Among m (Line k) = k < length (m .lines)
 
 abbrev pub nth : ℕ → ℕ → ℕ → Item
 nth b s k = cond (ltb k b) (Buy k) (cond (ltb (k - b) s) (Sell (k - b)) (Line (k - b - s)))
-
-abbrev pub Content-item : Market → Outcome → List ℕ → Item → Type 0
-Content-item m o ps (Buy k) =
-    let b = bid (m .buys) k in
-    Content (b .amount) (at (o .bought) k) (at ps (b .zone)) (b .price)
-Content-item m o ps (Sell k) =
-    let s = bid (m .sells) k in
-    Content (s .amount) (at (o .sold) k) (s .price) (at ps (s .zone))
-Content-item m o ps (Line k) =
-    let l = line (m .lines) k in
-    Content (l .capacity) (at (o .flow) k) (at ps (l .from)) (at ps (l .to))
 
 abbrev pub hub : Market → ℕ
 hub m = m .zones
@@ -106,3 +96,16 @@ spent m o = weighed m (cost m) o
 
 abbrev pub price : Market → List ℕ → ℕ → ℕ
 price m ps n = cond (ltb n (m .zones)) (at ps n) 0
+
+abbrev pub unit-cost : Market → List ℕ → Item → ℕ
+unit-cost m ps (Buy k) = at ps (bid (m .buys) k .zone)
+unit-cost m ps (Sell k) = bid (m .sells) k .price
+unit-cost m ps (Line k) = at ps (line (m .lines) k .from)
+
+abbrev pub unit-value : Market → List ℕ → Item → ℕ
+unit-value m ps (Buy k) = bid (m .buys) k .price
+unit-value m ps (Sell k) = at ps (bid (m .sells) k .zone)
+unit-value m ps (Line k) = at ps (line (m .lines) k .to)
+
+abbrev pub Content-item : Market → Outcome → List ℕ → Item → Type 0
+Content-item m o ps i = Content (capacity m i) (carried o i) (unit-cost m ps i) (unit-value m ps i)

@@ -68,6 +68,7 @@ pub record Rest-settles (m : Market) (o : Outcome) (ps : List ℕ) : Type 0 wher
   pub below :
       ((z : ℕ) → z < m .zones → Reached m o ps z) → (qs : List ℕ) → Settled m o qs → (z : ℕ) → z < m .zones →
       at ps z ≤ at qs z
+  pub lowest : Resting m o ps → ((z : ℕ) → z < m .zones → Reached m o ps z) → Lowest m ps
 
 abbrev pub At-rest : Type 0
 At-rest = (m : Market) (o : Outcome) (ps : List ℕ) → Proper m → Feasible m o → Rest-settles m o ps

@@ -4,12 +4,14 @@
 --   items t          how many items the table t has; one or two numbers at its end that make no item do not count
 --   bids-in t        the bids of a table: zone, price, amount
 --   lines-in t       the lines of a table: from, to, capacity
+--   zone-total       the amounts, together, of those items that have the zone z in column c
 --   market-in        the market of so many zones with these tables of buys, sells and lines
 --   outcome-in       the outcome with these lists of amounts and flows
 use mathlib.Core.List.{List}
 use Prim.Native.Nat.{ℕ, _+_, _*_, _/_}
 use lib.ListN.{length}
 use Rattle.hour.specs.Listed.{listed}
+use Rattle.hour.specs.Total.{tagged}
 use Rattle.hour.specs.declared.items.Bid.{Bid}
 use Rattle.hour.specs.declared.items.Line.{Line}
 use Rattle.hour.specs.Market.{Market, Outcome, at}
@@ -32,3 +34,6 @@ market-in zones buys sells lines =
 
 abbrev pub outcome-in : List ℕ → List ℕ → List ℕ → Outcome
 outcome-in bought sold flow = record { bought = bought; sold = sold; flow = flow }
+
+abbrev pub zone-total : List ℕ → ℕ → ℕ → List ℕ → ℕ
+zone-total t c z xs = tagged (items t) (λ k. cell t k c) z (at xs)

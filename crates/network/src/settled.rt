@@ -1,14 +1,14 @@
 // Whether prices settle an outcome, on tables.
-ghost use mathlib.Core.Path.{_≡_};
-ghost use Prim.Native.Nat.{_+_, _<_};
 ghost use Rattle.std.specs.Orderings.{Decides};
 ghost use Rattle.hour.specs.Market.{Content, Settled};
-ghost use Rattle.network.specs.Network.{Content-item, nth};
-ghost use Rattle.network.specs.Tables.{items, market-in, outcome-in};
+ghost use Rattle.network.specs.Network.{Content-item};
+ghost use Rattle.network.specs.Tables.{market-in, outcome-in};
 use crate::arcs::Item;
 use crate::tables::Amounts;
 use crate::tables::Tables;
 use crate::tables::bid_at;
+use crate::tables::item_at;
+use crate::tables::item_count;
 use crate::tables::line_at;
 use crate::tables::number_at;
 
@@ -23,28 +23,6 @@ pub fn content(limit: u64, amount: u64, cost: u64, value: u64) -> bool
         return amount == 0;
     }
     true
-}
-
-// Item k of all: buys first, then sells, then lines.
-pub fn item_at(t: Tables, k: usize) -> Item
-    ensures { λ r. ⌜ r ≡ nth (items (now (t .entry .buys))) (items (now (t .entry .sells))) k ⌝ }
-{
-    let buys = t.buys.len() / 3;
-    let sells = t.sells.len() / 3;
-    if k < buys {
-        Item::Buy(k)
-    } else if k - buys < sells {
-        Item::Sell(k - buys)
-    } else {
-        Item::Line(k - buys - sells)
-    }
-}
-
-pub fn item_count(t: Tables) -> usize
-    ensures { λ r.
-        ⌜ r ≡ items (now (t .entry .buys)) + items (now (t .entry .sells)) + items (now (t .entry .lines)) ⌝ }
-{
-    t.buys.len() / 3 + t.sells.len() / 3 + t.lines.len() / 3
 }
 
 // A unit costs a buyer the zone's price and brings the bid's; it costs a seller the bid's price and brings the zone's;

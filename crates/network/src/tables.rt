@@ -1,20 +1,27 @@
 // A market and an outcome in tables of numbers: what it is worth, and each zone's balance.
 // A table has three numbers for each item: zone, price, amount of a bid; from, to, capacity of a line.
 ghost use mathlib.Core.Path.{_≡_};
-ghost use Prim.Native.Nat.{ℕ, _+_, _*_, _^_, _<_, _≤_};
+ghost use Prim.Native.Nat.{ℕ, _+_, _-_, _*_, _^_, _<_, _≤_};
 ghost use Rattle.std.specs.Numbers.{Checked};
 ghost use Rattle.std.specs.Options.{Cases};
-ghost use Rattle.hour.specs.Total.{tagged};
 ghost use Rattle.hour.specs.Market.{at, bid, line, in-zone, into, out-of, worth};
-ghost use Rattle.network.specs.Tables.{cell, items, bids-in, lines-in};
+ghost use Rattle.network.specs.Network.{nth};
+ghost use Rattle.network.specs.Tables.{cell, items, bids-in, lines-in, zone-total};
+use crate::arcs::Item;
 use hour::Bid;
 use hour::Line;
 
-const FIRST: usize = 0;
+const ZONE: usize = 0;
 
-const SECOND: usize = 1;
+const PRICE: usize = 1;
 
-const THIRD: usize = 2;
+const AMOUNT: usize = 2;
+
+const FROM: usize = 0;
+
+const TO: usize = 1;
+
+const CAPACITY: usize = 2;
 
 #[derive(Clone, Copy)]
 pub struct Tables<'a> {
@@ -51,9 +58,9 @@ pub fn bid_at(table: &[u64], k: usize) -> Bid
 {
     if k < table.len() / 3 {
         Bid {
-            zone: cell(table, k, FIRST),
-            price: cell(table, k, SECOND),
-            amount: cell(table, k, THIRD),
+            zone: cell(table, k, ZONE),
+            price: cell(table, k, PRICE),
+            amount: cell(table, k, AMOUNT),
         }
     } else {
         Bid {
@@ -69,9 +76,9 @@ pub fn line_at(table: &[u64], k: usize) -> Line
 {
     if k < table.len() / 3 {
         Line {
-            from: cell(table, k, FIRST),
-            to: cell(table, k, SECOND),
-            capacity: cell(table, k, THIRD),
+            from: cell(table, k, FROM),
+            to: cell(table, k, TO),
+            capacity: cell(table, k, CAPACITY),
         }
     } else {
         Line {
@@ -80,6 +87,28 @@ pub fn line_at(table: &[u64], k: usize) -> Line
             capacity: 0,
         }
     }
+}
+
+// Item k of all: buys first, then sells, then lines.
+pub fn item_at(t: Tables, k: usize) -> Item
+    ensures { λ r. ⌜ r ≡ nth (items (now (t .entry .buys))) (items (now (t .entry .sells))) k ⌝ }
+{
+    let buys = t.buys.len() / 3;
+    let sells = t.sells.len() / 3;
+    if k < buys {
+        Item::Buy(k)
+    } else if k - buys < sells {
+        Item::Sell(k - buys)
+    } else {
+        Item::Line(k - buys - sells)
+    }
+}
+
+pub fn item_count(t: Tables) -> usize
+    ensures { λ r.
+        ⌜ r ≡ items (now (t .entry .buys)) + items (now (t .entry .sells)) + items (now (t .entry .lines)) ⌝ }
+{
+    t.buys.len() / 3 + t.sells.len() / 3 + t.lines.len() / 3
 }
 
 // What amounts are worth at the prices of their bids; none where that is too large for 128 bits.
@@ -128,11 +157,11 @@ pub fn worth_of(t: Tables, o: Amounts) -> Option<Worth>
     Some(Worth { gained, spent })
 }
 
-// The amounts of those items, together, that have the zone in a column.
-fn tagged_sum(table: &[u64], column: usize, zone: u64, amounts: &[u64]) -> u128
+// The amounts, together, of those items that have the zone in a column.
+fn zone_total(table: &[u64], column: usize, zone: u64, amounts: &[u64]) -> u128
     requires { ⌜ column < 3 ⌝ }
-    ensures value { λ r. ⌜ r ≡ tagged (items (now (table .entry))) (λ k. cell (now (table .entry)) k column) zone (at (now (amounts .entry))) ⌝ }
-    ensures small { λ r. ⌜ r ≤ 18446744073709551615 * items (now (table .entry)) ⌝ }
+    ensures value { λ r. ⌜ r ≡ zone-total (now (table .entry)) column zone (now (amounts .entry)) ⌝ }
+    ensures small { λ r. ⌜ r ≤ (2 ^ 64 - 1) * items (now (table .entry)) ⌝ }
 {
     let mut sum: u128 = 0;
     for k in 0..table.len() / 3 {
@@ -160,8 +189,7 @@ pub fn balance_at(t: Tables, o: Amounts, zone: u64) -> Balance
         ≡ in-zone zone (bids-in (now (t .entry .buys))) (now (o .entry .bought))
         + out-of zone (lines-in (now (t .entry .lines))) (now (o .entry .flow)) ⌝ }
 {
-    let comes = tagged_sum(t.sells, FIRST, zone, o.sold)
-        + tagged_sum(t.lines, SECOND, zone, o.flow);
-    let goes = tagged_sum(t.buys, FIRST, zone, o.bought) + tagged_sum(t.lines, FIRST, zone, o.flow);
+    let comes = zone_total(t.sells, ZONE, zone, o.sold) + zone_total(t.lines, TO, zone, o.flow);
+    let goes = zone_total(t.buys, ZONE, zone, o.bought) + zone_total(t.lines, FROM, zone, o.flow);
     Balance { comes, goes }
 }

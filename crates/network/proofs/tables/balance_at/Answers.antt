@@ -9,16 +9,16 @@ returns c =
       comes =
           omega (
             arith,
-            c .tagged-sum .ensures .value,
-            c .tagged-sum-2 .ensures .value,
+            c .zone-total .ensures .value,
+            c .zone-total-2 .ensures .value,
             in-zone-in (c .args .t .sells .now) (c .args .o .sold .now) (c .args .zone),
             into-in (c .args .t .lines .now) (c .args .o .flow .now) (c .args .zone),
           );
       goes =
           omega (
             arith,
-            c .tagged-sum-3 .ensures .value,
-            c .tagged-sum-4 .ensures .value,
+            c .zone-total-3 .ensures .value,
+            c .zone-total-4 .ensures .value,
             in-zone-in (c .args .t .buys .now) (c .args .o .bought .now) (c .args .zone),
             out-of-in (c .args .t .lines .now) (c .args .o .flow .now) (c .args .zone),
           );

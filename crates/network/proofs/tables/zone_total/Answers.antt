@@ -1,8 +1,8 @@
 -- The sum grows by the item's amount where the item has the zone.
 use native.Mathlib.Omega.{arith}
 use Rattle.network.proofs.Rows.{tagged-same, tagged-other}
-use Rattle.network.proofs.tables.tagged_sum.Needs as need
-use Rattle.network.proofs.tables.tagged_sum.Needs.{then-cell-zone, else-cell-zone}
+use Rattle.network.proofs.tables.zone_total.Needs as need
+use Rattle.network.proofs.tables.zone_total.Needs.{then-cell-zone, else-cell-zone}
 
 pub loop-k-again : need.loop-k-again
 loop-k-again c =

@@ -1,8 +1,0 @@
-use Prim.Native.Nat.{_*_, _≤_}
-use mathlib.Core.Path.{_≡_}
-use Rattle.network.proofs.Rows.{tagged-to}
-use Rattle.network.proofs.tables.tagged_sum.Given as given
-
-abbrev pub Inv-loop-k : given.InvT-loop-k
-Inv-loop-k l =
-    (l .sum ≡ tagged-to (l .table) (l .amounts) (l .column) (l .zone) (l .k)) × (l .sum ≤ 18446744073709551615 * l .k)
