@@ -1,8 +1,8 @@
 -- The worked hours, each by arithmetic on its numbers. Assumes nothing.
-use mathlib.Core.Path.{_≡_, refl}
+use mathlib.Core.Path.{_≡_}
 use mathlib.Core.Logic.{inl, inr}
 use mathlib.Core.List.{List, [], _∷_}
-use Prim.Native.Nat.{ℕ, zero, suc, _+_, _*_, _≤_, _<_}
+use Prim.Native.Nat.{ℕ, zero, suc, _+_, _≤_, _<_}
 use native.Mathlib.Omega.{arith}
 use lib.Dec.{lit<}
 use lib.ListN.{length}
@@ -10,7 +10,6 @@ use Rattle.std.proofs.shelf.Tests.{cases-eq, cases-lt}
 use Rattle.hour.specs.Market.{Market, Outcome, Proper, Feasible, Settled, Content, Balanced, at, bid, line, worth}
 use Rattle.network.specs.Network.{Content-item}
 use Rattle.network.specs.declared.arcs.Item.the-variants.{Buy, Sell, Line}
-use Rattle.network.specs.Prices.{Lowest, Lowest-of}
 use Rattle.network.specs.Hours.{Row, Holds, narrow, wide, in-part, tied, unsold, apart, one-each, traded}
 use Rattle.network.specs.Promises.{Worked-hours}
 use Rattle.network.proofs.Prices.{one-lowest}

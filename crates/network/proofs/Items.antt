@@ -3,9 +3,8 @@ use mathlib.Core.Path.{_≡_, refl, subst, subst⁻¹}
 use mathlib.Core.Bool.{Bool, false}
 use mathlib.Core.Logic.{inl, inr}
 use mathlib.Core.List.{List}
-use Prim.Native.Nat.{ℕ, _+_, _-_, _≤_, _<_}
+use Prim.Native.Nat.{ℕ, _+_, _-_, _<_}
 use native.Mathlib.Omega.{arith}
-use lib.Dec.{ltb}
 use lib.ListN.{length}
 use borrow.Author.Tests.{lt-ltb, le-ltb}
 use Rattle.std.specs.Orderings.{Decides}
@@ -53,10 +52,13 @@ pub settled-by-items :
     ((k : ℕ) → k < b + s + l → Content-item m o ps (nth b s k)) → Settled m o ps
 settled-by-items m o ps b s l n each =
     record {
-      buys = λ k h. subst (Content-item m o ps) (nth-buy b s k (omega arith)) (each k (omega arith));
-      sells = λ k h. subst (Content-item m o ps) (nth-sell b s (b + k) k refl (omega arith)) (each (b + k) (omega arith));
-      lines = λ k h. subst (Content-item m o ps) (nth-line b s (b + s + k) k refl) (each (b + s + k) (omega arith));
+      buys = λ k h. subst P (nth-buy b s k (omega arith)) (each k (omega arith));
+      sells = λ k h. subst P (nth-sell b s (b + k) k refl (omega arith)) (each (b + k) (omega arith));
+      lines = λ k h. subst P (nth-line b s (b + s + k) k refl) (each (b + s + k) (omega arith));
     }
+  where
+    P : Item → Type 0
+    P i = Content-item m o ps i
 
 -- an item that is not content shows that the prices do not settle
 pub unsettled-by-item :

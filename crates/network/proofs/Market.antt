@@ -1,19 +1,18 @@
 -- The market's definitions, said of its arcs. Assumes nothing.
 use mathlib.Core.Path.{_≡_, sym, _∙_}
 use mathlib.Core.Logic.{_≢_}
-use mathlib.Core.Bool.{cond}
 use mathlib.Core.List.{List}
 use Prim.Native.Nat.{ℕ, _+_, _*_, _≤_, _<_}
 use native.Mathlib.Nat.{zero-mul}
 use native.Mathlib.Omega.{arith}
-use lib.Dec.{eqb, ltb}
+use lib.Dec.{eqb}
 use lib.ListN.{length}
 use borrow.Author.Tests.{lt-ltb, le-ltb, ne-eqb}
 use Rattle.hour.specs.Total.{total, tagged}
 use Rattle.hour.specs.Market.{Market, Outcome, Proper, Feasible, Settled, at, bid, line, worth}
 use Rattle.hour.specs.Market.{in-zone, into, out-of}
 use Rattle.hour.proofs.Total.{total-same, total-none}
-use Rattle.network.specs.Network.{Among, hub, tail, head, capacity, cost, gain, carried, weighed, tag, price}
+use Rattle.network.specs.Network.{Among, hub, tail, head, capacity, cost, gain, carried, tag, price}
 use Rattle.network.specs.Network.{inflow, outflow, gained, spent, unit-cost, unit-value, Content-item}
 use Rattle.network.specs.declared.arcs.Item.{Item}
 use Rattle.network.specs.declared.arcs.Item.the-variants.{Buy, Sell, Line}

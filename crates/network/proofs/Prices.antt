@@ -89,7 +89,7 @@ best-arcs m o p ps proper f s g =
       surplus-worth m o p ps proper f g,
     )
 
--- Idea: each item's surplus at the prices is highest in o; summed up, the prices cancel, since every zone is in balance.
+-- Idea: each item's surplus at the prices is highest in o; summed up, the prices cancel, as every zone is in balance.
 pub best : Best
 best m o p ps proper f s g =
     omega (

@@ -1,5 +1,5 @@
 -- Prices at rest: no free step can raise one. Assumes nothing.
-use mathlib.Core.Path.{_≡_, ap}
+use mathlib.Core.Path.{ap}
 use mathlib.Core.Logic.{inl, inr}
 use mathlib.Core.List.{List, [], _∷_}
 use Prim.Native.Nat.{ℕ, _+_, _≤_, _<_}
@@ -8,7 +8,7 @@ use Rattle.std.specs.shelf.Lists.{All}
 use Rattle.std.proofs.shelf.Tests.{cases-lt}
 use Rattle.hour.specs.Market.{Market, Outcome, Proper, Feasible, Settled, at}
 use Rattle.network.specs.Network.{Among, hub, capacity, carried, price, unit-cost, unit-value, Content-item}
-use Rattle.network.specs.Ways.{item, start, finish, step-cost, step-gain, Free, Links, way-cost, way-gain}
+use Rattle.network.specs.Ways.{finish, Free, Links, way-cost, way-gain}
 use Rattle.network.specs.Ways.{Resting, Reached}
 use Rattle.network.specs.Promises.{At-rest}
 use Rattle.network.specs.declared.arcs.Item.{Item}

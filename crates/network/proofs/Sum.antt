@@ -59,13 +59,13 @@ module _ (m : Market) where
       (f g : Item → ℕ) → ((i : Item) → Among m i → f i ≤ g i) → sum m g ≤ sum m f →
       (i : Item) → Among m i → f i ≡ g i
   sum-tight f g le sums =
-      let b = total-le (length (m .buys)) (λ k. f (Buy k)) (λ k. g (Buy k)) (λ k. le (Buy k)) in
-      let s = total-le (length (m .sells)) (λ k. f (Sell k)) (λ k. g (Sell k)) (λ k. le (Sell k)) in
-      let l = total-le (length (m .lines)) (λ k. f (Line k)) (λ k. g (Line k)) (λ k. le (Line k)) in
+      let buys = total-le (length (m .buys)) (λ k. f (Buy k)) (λ k. g (Buy k)) (λ k. le (Buy k)) in
+      let sells = total-le (length (m .sells)) (λ k. f (Sell k)) (λ k. g (Sell k)) (λ k. le (Sell k)) in
+      let lines = total-le (length (m .lines)) (λ k. f (Line k)) (λ k. g (Line k)) (λ k. le (Line k)) in
       elim [
-        | Buy k ↦ total-tight (length (m .buys)) (λ k. f (Buy k)) (λ k. g (Buy k)) (λ k. le (Buy k)) (omega arith) k
-        | Sell k ↦ total-tight (length (m .sells)) (λ k. f (Sell k)) (λ k. g (Sell k)) (λ k. le (Sell k)) (omega arith) k
-        | Line k ↦ total-tight (length (m .lines)) (λ k. f (Line k)) (λ k. g (Line k)) (λ k. le (Line k)) (omega arith) k
+        | Buy k ↦ total-tight _ (λ k. f (Buy k)) (λ k. g (Buy k)) (λ k. le (Buy k)) (omega arith) k
+        | Sell k ↦ total-tight _ (λ k. f (Sell k)) (λ k. g (Sell k)) (λ k. le (Sell k)) (omega arith) k
+        | Line k ↦ total-tight _ (λ k. f (Line k)) (λ k. g (Line k)) (λ k. le (Line k)) (omega arith) k
       ]
 
   -- a sum over items and a sum by index change places

@@ -7,9 +7,9 @@ use native.Mathlib.Nat.{add-mul, mul-add, mul-le-mul-right, sub-add-cancel}
 use native.Mathlib.Omega.{arith}
 use Rattle.std.specs.shelf.Lists.{All}
 use Rattle.std.proofs.shelf.Tests.{cases-eq}
-use Rattle.hour.specs.Market.{Market, Outcome, Feasible, at, worth}
+use Rattle.hour.specs.Market.{Market, Outcome, at, worth}
 use Rattle.network.specs.Network.{Among, tail, head, capacity, cost, gain, carried, weighed, tag, inflow, outflow}
-use Rattle.network.specs.Ways.{item, start, finish, Fits, Links, Once, way-cost, way-gain, put, carry, moved, pushed}
+use Rattle.network.specs.Ways.{start, Fits, Links, Once, way-cost, way-gain, put, carry, moved, pushed}
 use Rattle.network.specs.Promises.{Push}
 use Rattle.network.specs.declared.arcs.Item.{Item}
 use Rattle.network.specs.declared.arcs.Item.the-variants.{Buy, Sell, Line}
@@ -157,7 +157,7 @@ linked-weights m φ a (Forward i ∷ ss) b links =
 linked-weights m φ a (Backward i ∷ ss) b links =
     omega (arith, linked-weights m φ (tail m i) ss b (links .1), ap φ (links .0))
 
--- Idea: every step raises or lowers one arc, so what a node is short of moves along the way and is gone where it closes.
+-- Idea: every step raises or lowers one arc, so an imbalance moves along the way and is gone where the way closes.
 pub push : Push
 push m o a d ss f links once fits =
     let p = pushed o ss d in

@@ -1,17 +1,17 @@
--- What an outcome carries, weighed: how weights add, how node prices sum up, and what one change does. Assumes nothing.
+-- What an outcome carries, weighed: how weights add, how nodes sum up, and what one change does. Assumes nothing.
 use mathlib.Core.Path.{_≡_, refl, sym, ap, _∙_}
 use mathlib.Core.Bool.{Bool, cond, true, false}
 use mathlib.Core.Logic.{_≢_}
 use mathlib.Core.List.{List, [], _∷_}
-use Prim.Native.Nat.{ℕ, zero, suc, _+_, _*_, _≤_, _<_}
-use native.Mathlib.Nat.{mul-assoc, add-mul, mul-one, mul-zero}
+use Prim.Native.Nat.{ℕ, zero, suc, _+_, _*_, _<_}
+use native.Mathlib.Nat.{add-mul, mul-zero}
 use native.Mathlib.Omega.{arith}
 use lib.Dec.{eqb}
 use lib.ListN.{length, set}
 use Rattle.hour.specs.Total.{total}
 use Rattle.hour.specs.Market.{Market, Outcome, at}
-use Rattle.hour.proofs.Total.{total-scale, total-same, total-change, total-pick}
-use Rattle.network.specs.Network.{Among, carried, sum, weighed, tag}
+use Rattle.hour.proofs.Total.{total-same, total-change, total-pick}
+use Rattle.network.specs.Network.{Among, carried, weighed, tag}
 use Rattle.network.specs.Ways.{put, carry}
 use Rattle.network.specs.declared.arcs.Item.{Item}
 use Rattle.network.specs.declared.arcs.Item.the-variants.{Buy, Sell, Line}

@@ -4,8 +4,8 @@
 --   Among m i         i is an item of m
 --   nth b s k         item k of all: b buys first, then s sells, then lines
 --   hub m             a node beside the zones: every sell comes from it, every buy goes to it
---   tail, head        the nodes where an arc begins and ends: a buy goes from its zone to the hub, a sell from the hub to
---                     its zone, a line from zone to zone
+--   tail, head        the nodes where an arc begins and ends: a buy goes from its zone to the hub, a sell from the
+--                     hub to its zone, a line from zone to zone
 --   capacity          how much an arc carries at most
 --   cost, gain        what a unit costs and brings on its own: a sell costs its price, a buy brings its price
 --   carried o i       how much i carries in the outcome o
@@ -17,7 +17,7 @@
 --   unit-cost         what a unit of an item costs at the prices ps; unit-value what it brings
 --   Content-item      what Settled says of the item
 --
--- The base has no cost or gain on a line; whatever is proved of arcs holds with them too.
+-- A line costs and gains nothing on its own; a fee on a line would be its cost.
 use mathlib.Core.Bool.{cond}
 use mathlib.Core.List.{List}
 use Prim.Native.Nat.{ℕ, _+_, _-_, _*_, _<_}

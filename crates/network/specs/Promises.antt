@@ -5,9 +5,10 @@
 --   No-regret        at the prices, nobody's surplus is higher at another amount within the limit
 --   Exchange         prices that settle one outcome settle every other that some prices settle
 --   One-lowest       lowest prices are one list; the lowest that settle one outcome are the lowest that settle any
---   Push             along a closed way an amount that fits keeps all limits and balances, and changes the worth by the
---                    amount times what the way gains less what it costs
---   At-rest          prices that no free step can raise settle; prices that free ways to the hub are worth are the lowest
+--   Push             an amount that fits, along a closed way, keeps all limits and balances, and changes the worth by
+--                    the amount times what the way gains less what it costs
+--   At-rest          prices that no free step can raise settle; prices that free ways to the hub bear out are at or
+--                    below every list that settles
 --   Worked-hours     the worked hours come out as written
 --
 -- Of two sides of an order, what is subtracted stands on the other side: naturals only.
@@ -55,7 +56,8 @@ pub record Push-done (m : Market) (o p : Outcome) (ss : List Step) (d : ℕ) : T
       ≡ worth (m .buys) (o .bought) + worth (m .sells) (p .sold) + way-gain m ss * d
   pub rises :
       0 < d → way-cost m ss < way-gain m ss →
-      worth (m .buys) (o .bought) + worth (m .sells) (p .sold) < worth (m .buys) (p .bought) + worth (m .sells) (o .sold)
+      worth (m .buys) (o .bought) + worth (m .sells) (p .sold)
+      < worth (m .buys) (p .bought) + worth (m .sells) (o .sold)
 
 abbrev pub Push : Type 0
 Push =

@@ -1,7 +1,7 @@
 // A market and an outcome in tables of numbers: what it is worth, and each zone's balance.
 // A table has three numbers for each item: zone, price, amount of a bid; from, to, capacity of a line.
 ghost use mathlib.Core.Path.{_≡_};
-ghost use Prim.Native.Nat.{ℕ, _+_, _-_, _*_, _^_, _<_, _≤_};
+ghost use Prim.Native.Nat.{_+_, _-_, _*_, _^_, _<_, _≤_};
 ghost use Rattle.std.specs.Numbers.{Checked};
 ghost use Rattle.std.specs.Options.{Cases};
 ghost use Rattle.hour.specs.Market.{at, bid, line, in-zone, into, out-of, worth};

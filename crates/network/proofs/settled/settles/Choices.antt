@@ -1,3 +1,4 @@
+-- The items below k are content.
 use Prim.Native.Nat.{ℕ, _<_}
 use Rattle.network.specs.Network.{Content-item, nth}
 use Rattle.network.specs.Tables.{items, market-in, outcome-in}

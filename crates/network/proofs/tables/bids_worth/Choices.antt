@@ -1,3 +1,4 @@
+-- The sum is the worth of the first k bids, and fits.
 use Prim.Native.Nat.{_^_, _<_}
 use mathlib.Core.Path.{_≡_}
 use Rattle.network.specs.Tables.{bids-in}

@@ -8,18 +8,15 @@ pub loop-k-again : need.loop-k-again
 loop-k-again c =
     let table = c .args .table .now in
     let amounts = c .args .amounts .now in
+    let column = c .args .column in
+    let zone = c .args .zone in
+    let k = c .loop-k .k in
+    let key = c .cell .ensures in
     elim (c .if-cell-zone .came) [
       | then-cell-zone w ↦
-          omega (
-            arith,
-            w .sum-is,
-            tagged-same table amounts (c .args .column) (c .args .zone) (c .loop-k .k) _ _ (c .cell .ensures) (w .number-at .ensures)
-                (w .if-cell-zone .taken),
-          )
+          let same = w .if-cell-zone .taken in
+          omega (arith, w .sum-is, tagged-same table amounts column zone k _ _ key (w .number-at .ensures) same)
       | else-cell-zone w ↦
-          omega (
-            arith,
-            w .sum-is,
-            tagged-other table amounts (c .args .column) (c .args .zone) (c .loop-k .k) _ (c .cell .ensures) (w .if-cell-zone .left),
-          )
+          let other = w .if-cell-zone .left in
+          omega (arith, w .sum-is, tagged-other table amounts column zone k _ key other)
     ]

@@ -1,3 +1,4 @@
+-- The sum is that of the first k items, each below 2 ^ 64.
 use Prim.Native.Nat.{_-_, _*_, _^_, _≤_}
 use mathlib.Core.Path.{_≡_}
 use Rattle.network.proofs.Rows.{tagged-to}
