@@ -9,7 +9,7 @@ use Rattle.std.specs.shelf.Lists.{All}
 use Rattle.std.proofs.shelf.Tests.{cases-eq}
 use Rattle.hour.specs.Market.{Market, Outcome, at, worth}
 use Rattle.network.specs.Network.{Among, tail, head, capacity, cost, gain, carried, weighed, tag, inflow, outflow}
-use Rattle.network.specs.Ways.{start, Fits, Links, Once, way-cost, way-gain, put, carry, moved, pushed}
+use Rattle.network.specs.Ways.{start, room, Fits, Links, Once, way-cost, way-gain, put, carry, moved, pushed}
 use Rattle.network.specs.Promises.{Push}
 use Rattle.network.specs.declared.arcs.Item.{Item}
 use Rattle.network.specs.declared.arcs.Item.the-variants.{Buy, Sell, Line}
@@ -42,32 +42,24 @@ carries o (Line k) x (Buy j) = inr refl
 carries o (Line k) x (Sell j) = inr refl
 carries o (Line k) x (Line j) = put-carries Line (o .flow) k x j
 
--- a step leaves as much room as there was for any step that leaves another node
+-- a step takes no room from any step that leaves another node
+room-moved :
+    (m : Market) (o : Outcome) (d : ℕ) (s t : Step) → start m t ≢ start m s → room m o t ≤ room m (moved o s d) t
+room-moved m o d (Forward i) (Forward j) apart =
+    elim (carries o i (carried o i + d) j)
+    [ inl (e, is) ↦ absurd (apart (ap (tail m) (sym e))) | inr same ↦ omega arith ]
+room-moved m o d (Forward i) (Backward j) apart =
+    elim (carries o i (carried o i + d) j) [ inl (e, is) ↦ omega (arith, ap (carried o) e) | inr same ↦ omega arith ]
+room-moved m o d (Backward i) (Forward j) apart =
+    elim (carries o i (carried o i - d) j) [ inl (e, is) ↦ omega (arith, ap (carried o) e) | inr same ↦ omega arith ]
+room-moved m o d (Backward i) (Backward j) apart =
+    elim (carries o i (carried o i - d) j)
+    [ inl (e, is) ↦ absurd (apart (ap (head m) (sym e))) | inr same ↦ omega arith ]
+
 fits-moved :
     (m : Market) (o : Outcome) (d : ℕ) (s t : Step) → start m t ≢ start m s → Fits m o d t → Fits m (moved o s d) d t
-fits-moved m o d (Forward i) (Forward j) apart f = record { among = f .among; fits = room-left }
-  where
-    room-left : d ≤ capacity m j - carried (moved o (Forward i) d) j
-    room-left =
-        elim (carries o i (carried o i + d) j)
-        [ inl (e, is) ↦ absurd (apart (ap (tail m) (sym e))) | inr same ↦ omega (arith, f .fits) ]
-fits-moved m o d (Forward i) (Backward j) apart f = record { among = f .among; fits = room-left }
-  where
-    room-left : d ≤ carried (moved o (Forward i) d) j
-    room-left =
-        elim (carries o i (carried o i + d) j) [ inl (e, is) ↦ omega arith | inr same ↦ omega (arith, f .fits) ]
-fits-moved m o d (Backward i) (Forward j) apart f = record { among = f .among; fits = room-left }
-  where
-    room-left : d ≤ capacity m j - carried (moved o (Backward i) d) j
-    room-left =
-        elim (carries o i (carried o i - d) j)
-        [ inl (e, is) ↦ omega (arith, f .fits, ap (carried o) e) | inr same ↦ omega (arith, f .fits) ]
-fits-moved m o d (Backward i) (Backward j) apart f = record { among = f .among; fits = room-left }
-  where
-    room-left : d ≤ carried (moved o (Backward i) d) j
-    room-left =
-        elim (carries o i (carried o i - d) j)
-        [ inl (e, is) ↦ absurd (apart (ap (head m) (sym e))) | inr same ↦ omega (arith, f .fits) ]
+fits-moved m o d s t apart f =
+    record { among = f .among; fits = omega (arith, f .fits, room-moved m o d s t apart) }
 
 fits-rest :
     (m : Market) (o : Outcome) (d : ℕ) (s : Step) (ts : List Step) →
