@@ -1,4 +1,5 @@
 pub mod First
+pub mod Total
 pub mod Heads
 pub mod Kept
 pub mod Pasted

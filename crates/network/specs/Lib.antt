@@ -1,0 +1,6 @@
+pub mod Network
+pub mod Ways
+pub mod Prices
+pub mod Hours
+pub mod Promises
+pub mod Tables
