@@ -1,0 +1,5 @@
+pub mod Best
+pub mod Bids
+pub mod Labels
+pub mod Plan
+pub mod Promises
