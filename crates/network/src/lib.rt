@@ -6,6 +6,10 @@ pub mod tables;
 
 pub use arcs::Item;
 pub use arcs::Step;
+pub use tables::Amounts;
+pub use tables::Tables;
+pub use tables::bid_in;
+pub use tables::line_in;
 
 #[cfg(test)]
 mod tests;

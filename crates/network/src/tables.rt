@@ -52,16 +52,24 @@ fn cell(table: &[u64], item: usize, column: usize) -> u64
     table[3 * item + column]
 }
 
-// Past the end of the table all numbers of an item are 0.
+// The k-th bid of a table.
+pub fn bid_in(table: &[u64], k: usize) -> Bid
+    requires { ⌜ k < items (now table) ⌝ }
+    ensures { λ r. ⌜ r ≡ bid (bids-in (now (table .entry))) k ⌝ }
+{
+    Bid {
+        zone: cell(table, k, ZONE),
+        price: cell(table, k, PRICE),
+        amount: cell(table, k, AMOUNT),
+    }
+}
+
+// Past the end of the table all numbers of a bid are 0.
 pub fn bid_at(table: &[u64], k: usize) -> Bid
     ensures { λ r. ⌜ r ≡ bid (bids-in (now (table .entry))) k ⌝ }
 {
     if k < table.len() / 3 {
-        Bid {
-            zone: cell(table, k, ZONE),
-            price: cell(table, k, PRICE),
-            amount: cell(table, k, AMOUNT),
-        }
+        bid_in(table, k)
     } else {
         Bid {
             zone: 0,
@@ -71,15 +79,24 @@ pub fn bid_at(table: &[u64], k: usize) -> Bid
     }
 }
 
+// The k-th line of a table.
+pub fn line_in(table: &[u64], k: usize) -> Line
+    requires { ⌜ k < items (now table) ⌝ }
+    ensures { λ r. ⌜ r ≡ line (lines-in (now (table .entry))) k ⌝ }
+{
+    Line {
+        from: cell(table, k, FROM),
+        to: cell(table, k, TO),
+        capacity: cell(table, k, CAPACITY),
+    }
+}
+
+// Past the end of the table all numbers of a line are 0.
 pub fn line_at(table: &[u64], k: usize) -> Line
     ensures { λ r. ⌜ r ≡ line (lines-in (now (table .entry))) k ⌝ }
 {
     if k < table.len() / 3 {
-        Line {
-            from: cell(table, k, FROM),
-            to: cell(table, k, TO),
-            capacity: cell(table, k, CAPACITY),
-        }
+        line_in(table, k)
     } else {
         Line {
             from: 0,

@@ -2,4 +2,5 @@ pub mod Best
 pub mod Bids
 pub mod Labels
 pub mod Plan
+pub mod Search
 pub mod Promises

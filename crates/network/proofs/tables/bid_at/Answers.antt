@@ -1,11 +1,6 @@
--- Within the table its three numbers, past its end nothing.
-use Rattle.network.proofs.Rows.{bid-read, bid-past}
+-- Past the end of a table there is nothing.
+use Rattle.network.proofs.Rows.{bid-past}
 use Rattle.network.proofs.tables.bid_at.Needs as need
-
-pub returns-then-k-table : need.returns-then-k-table
-returns-then-k-table c =
-    bid-read (c .args .table .now) (c .args .k) _ _ _ (c .if-k-table .taken) (c .cell .ensures)
-    (c .cell-then-k-table .ensures) (c .cell-then-k-table-2 .ensures)
 
 pub returns-else-k-table : need.returns-else-k-table
 returns-else-k-table c = bid-past (c .args .table .now) (c .args .k) (c .if-k-table .left)
