@@ -1,3 +1,4 @@
 pub mod First
 pub mod Heads
 pub mod Kept
+pub mod Rows

@@ -5,3 +5,4 @@ pub mod Market
 pub mod Refusals
 pub mod Rules
 pub mod Bytes
+pub mod Text

@@ -1,0 +1,95 @@
+// An hour as text: a row for the zones, and one for each buy, sell and line; or the row of its refusal.
+ghost use mathlib.Core.List.{_++_};
+ghost use mathlib.Core.Path.{_≡_};
+ghost use lib.Chars.{codes};
+ghost use Rattle.std.specs.Of.String.{string-bytes};
+ghost use Rattle.std.specs.Vec.{made};
+ghost use Rattle.hour.specs.Bytes.{market-of};
+ghost use Rattle.hour.specs.Text.{refused, zones-row, bid-row, line-row, bid-rows, line-rows, market-rows, listing-of};
+use crate::items::Bid;
+use crate::items::Line;
+use crate::money::Price;
+use crate::money::PriceDisplay;
+use crate::reading::refusal;
+use crate::refusals::RefusalDisplay;
+use crate::view::Hour;
+use std::alloc::AllocError;
+use std::alloc::Global;
+use std::fmt;
+
+// The bid with the number `k` of its list, which `word` calls buy or sell.
+fn bid_row(text: &mut String, word: &str, k: usize, bid: Bid) -> fmt::Result
+    ensures { λ r. ⌜ made r (λ _. string-bytes (now (text .exit)) ≡ string-bytes (now (text .entry)) ++ bid-row (now (word .entry)) k bid) ⌝ }
+{
+    let Bid {
+        zone,
+        price,
+        amount,
+    } = bid;
+    let price = Price(price);
+    writeln!(text, "{word} {k} zone {zone} price {price} amount {amount}")
+}
+
+fn line_row(text: &mut String, k: usize, line: Line) -> fmt::Result
+    ensures { λ r. ⌜ made r (λ _. string-bytes (now (text .exit)) ≡ string-bytes (now (text .entry)) ++ line-row k line) ⌝ }
+{
+    let Line { from, to, capacity } = line;
+    writeln!(text, "line {k} from {from} to {to} capacity {capacity}")
+}
+
+fn buy_rows(text: &mut String, hour: Hour<'_>) -> fmt::Result
+    ensures { λ r. ⌜ made r (λ _. string-bytes (now (text .exit)) ≡ string-bytes (now (text .entry)) ++ bid-rows (codes "buy") (market-of (now (hour .entry .bytes)) .buys)) ⌝ }
+{
+    for k in 0..hour.buys() {
+        bid_row(text, "buy", k, hour.buy(k))?;
+    }
+    Ok(())
+}
+
+fn sell_rows(text: &mut String, hour: Hour<'_>) -> fmt::Result
+    ensures { λ r. ⌜ made r (λ _. string-bytes (now (text .exit)) ≡ string-bytes (now (text .entry)) ++ bid-rows (codes "sell") (market-of (now (hour .entry .bytes)) .sells)) ⌝ }
+{
+    for k in 0..hour.sells() {
+        bid_row(text, "sell", k, hour.sell(k))?;
+    }
+    Ok(())
+}
+
+fn line_rows(text: &mut String, hour: Hour<'_>) -> fmt::Result
+    ensures { λ r. ⌜ made r (λ _. string-bytes (now (text .exit)) ≡ string-bytes (now (text .entry)) ++ line-rows (market-of (now (hour .entry .bytes)) .lines)) ⌝ }
+{
+    for k in 0..hour.lines() {
+        line_row(text, k, hour.line(k))?;
+    }
+    Ok(())
+}
+
+fn market_rows(text: &mut String, hour: Hour<'_>) -> fmt::Result
+    ensures { λ r. ⌜ made r (λ _. string-bytes (now (text .exit)) ≡ string-bytes (now (text .entry)) ++ market-rows (market-of (now (hour .entry .bytes)))) ⌝ }
+{
+    let zones = hour.zones();
+    writeln!(text, "zones {zones}")?;
+    buy_rows(text, hour)?;
+    sell_rows(text, hour)?;
+    line_rows(text, hour)
+}
+
+fn write_listing(text: &mut String, bytes: &[u8]) -> fmt::Result
+    ensures { λ r. ⌜ made r (λ _. string-bytes (now (text .exit)) ≡ string-bytes (now (text .entry)) ++ listing-of (now (bytes .entry))) ⌝ }
+{
+    if let Some(refusal) = refusal(bytes) {
+        return writeln!(text, "{refusal}");
+    }
+    market_rows(text, Hour::of(bytes))
+}
+
+// The text of any bytes; an error is want of memory.
+pub fn listing(heap: Global, bytes: &[u8]) -> Result<String, AllocError>
+    ensures { λ r. ⌜ made r (λ t. string-bytes t ≡ listing-of (now (bytes .entry))) ⌝ }
+{
+    let mut text = String::new(heap);
+    match write_listing(&mut text, bytes) {
+        Ok(()) => Ok(text),
+        Err(_) => Err(AllocError),
+    }
+}
