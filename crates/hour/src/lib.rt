@@ -1,4 +1,5 @@
 // One hour of the market, from its bytes to its bids and lines and back.
+mod input;
 mod items;
 mod money;
 mod reading;
@@ -7,6 +8,12 @@ mod rules;
 mod text;
 mod view;
 
+pub use input::Fault;
+pub use input::FaultDisplay;
+pub use input::FaultFromAllocError;
+pub use input::read_file;
+pub use input::read_standard_input;
+pub use input::write_answer;
 pub use items::Bid;
 pub use items::Line;
 pub use money::Hundredths;
