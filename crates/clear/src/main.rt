@@ -1,24 +1,16 @@
-// clear [HOUR]: reads an hour and lists it, or says why it is refused.
+// clear [HOUR]: reads an hour, from standard input where none is named, and lists it or says why it is refused.
 use hour::Fault;
-use hour::FaultDisplay;
 use hour::FaultFromAllocError;
+use hour::Told;
+use hour::arguments;
 use hour::listing;
 use hour::read_file;
 use hour::read_standard_input;
+use hour::tell;
 use hour::write_answer;
-use std::env;
 
-// The error has been told on standard error.
-#[derive(Drop)]
-struct Told;
-
-// The one file that the call may name.
 fn named_file(rt: &LibcRuntime) -> Result<Option<String>, Fault> {
-    let mut args = match env::args(rt) {
-        Ok(args) => args,
-        Err(error) => return Err(Fault::Arguments { error }),
-    };
-    let _program = args.next();
+    let mut args = arguments(rt)?;
     let name = args.next();
     if args.next().is_some() {
         return Err(Fault::Call);
@@ -36,9 +28,5 @@ fn run(rt: &LibcRuntime) -> Result<(), Fault> {
 }
 
 fn main(rt: LibcRuntime) -> Result<(), Told> {
-    if let Err(fault) = run(&rt) {
-        let _ = eprintln!(rt, "clear: {fault}; usage: clear [HOUR]");
-        return Err(Told);
-    }
-    Ok(())
+    tell(&rt, "clear", "[HOUR]", run(&rt))
 }

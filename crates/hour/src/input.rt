@@ -1,5 +1,9 @@
-// Files and standard input, read whole, and what can go wrong from a program's call to its answer.
+// A program's call, its files and standard input, read whole, and its answer; and what can go wrong with them.
+ghost use mathlib.Core.Path.{_≡_};
+ghost use Rattle.std.specs.Results.{isOk};
 use std::alloc::AllocError;
+use std::env;
+use std::env::Args;
 use std::fmt;
 use std::fs;
 use std::io;
@@ -24,12 +28,12 @@ pub impl fmt::Display for Fault as FaultDisplay {
         match self {
             Fault::Call => write!(f, "wrong number of arguments"),
             Fault::Arguments { error } => write!(f, "cannot read the arguments: {error}"),
-            Fault::File {
-                name,
-                error,
-            } => write!(f, "cannot read {name:?}: {error}"),
+            Fault::File { name, error } => write!(f, "cannot read {name:?}: {error}"),
             Fault::StandardInput { error } => write!(f, "cannot read standard input: {error}"),
-            Fault::StandardOutput { error } => write!(f, "cannot write to standard output: {error}"),
+            Fault::StandardOutput { error } => write!(
+                f,
+                "cannot write to standard output: {error}"
+            ),
             Fault::Memory => write!(f, "out of memory"),
         }
     }
@@ -38,6 +42,17 @@ pub impl fmt::Display for Fault as FaultDisplay {
 pub impl From<AllocError> for Fault as FaultFromAllocError {
     fn from(_error: AllocError) -> Fault {
         Fault::Memory
+    }
+}
+
+// What the call names behind the program itself.
+pub fn arguments(rt: &LibcRuntime) -> Result<Args, Fault> {
+    match env::args(rt) {
+        Ok(mut args) => {
+            let _program = args.next();
+            Ok(args)
+        }
+        Err(error) => Err(Fault::Arguments { error }),
     }
 }
 
@@ -61,5 +76,27 @@ pub fn write_answer(rt: &LibcRuntime, text: &str) -> Result<(), Fault> {
     match rt.write_all(text.as_bytes()) {
         Ok(()) => Ok(()),
         Err(error) => Err(Fault::StandardOutput { error }),
+    }
+}
+
+// The fault stands on standard error: `main` only has to end with status 1.
+#[derive(Drop)]
+pub struct Told;
+
+// Ends a run: a fault is one line that says what is wrong and what to type.
+pub fn tell(
+    rt: &LibcRuntime,
+    program: &str,
+    files: &str,
+    run: Result<(), Fault>,
+) -> Result<(), Told>
+    ensures { λ r. ⌜ isOk r ≡ isOk run ⌝ }
+{
+    match run {
+        Ok(()) => Ok(()),
+        Err(fault) => {
+            let _ = eprintln!(rt, "{program}: {fault}; usage: {program} {files}");
+            Err(Told)
+        }
     }
 }
