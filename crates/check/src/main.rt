@@ -60,5 +60,5 @@ fn run(rt: &LibcRuntime) -> Result<(), Fault> {
 }
 
 fn main(rt: LibcRuntime) -> Result<(), Told> {
-    tell(&rt, "check", "HOUR RESULT", run(&rt))
+    tell(&rt, "check", "check HOUR RESULT", run(&rt))
 }

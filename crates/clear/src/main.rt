@@ -28,5 +28,5 @@ fn run(rt: &LibcRuntime) -> Result<(), Fault> {
 }
 
 fn main(rt: LibcRuntime) -> Result<(), Told> {
-    tell(&rt, "clear", "[HOUR]", run(&rt))
+    tell(&rt, "clear", "clear [HOUR]", run(&rt))
 }

@@ -4,22 +4,32 @@
 --   refused r        a refusal by its number and its place: refused 4 at 14
 --   words, row       words with a space between each two; a row ends its line
 --   rows n f         f 0, f 1, .., f (n - 1) one after the other
+--   Adds r s bs t    a write that answered r made the text t of s by putting bs behind it
 --   listing-of bs    a row for the refusal of the bytes; or one for the zones and one for each buy, sell and line
 use mathlib.Core.Bool.{cond}
 use mathlib.Core.List.{List, [], _∷_, _++_}
+use mathlib.Core.Path.{_≡_}
 use Prim.Native.Nat.{ℕ, zero, suc, _-_, _/_, _%_}
 use lib.Chars.{codes}
 use lib.Dec.{ltb}
 use lib.ListN.{length}
+use Rattle.std.specs.Of.String.{string-bytes}
+use Rattle.std.specs.Vec.{made}
 use Rattle.std.specs.Written.{decimal}
 use Rattle.std.specs.declared.option.Option.{Option}
 use Rattle.std.specs.declared.option.Option.the-variants.{Some, None}
+use Rattle.std.specs.declared.result.Result.{Result}
+use Rattle.std.specs.declared.string.String.{String}
 use Rattle.hour.specs.Bytes.{market-of, refusal-of}
 use Rattle.hour.specs.Market.{Market, bid, line}
 use Rattle.hour.specs.Refusals.{number-of, place-of}
 use Rattle.hour.specs.declared.items.Bid.{Bid}
 use Rattle.hour.specs.declared.items.Line.{Line}
 use Rattle.hour.specs.declared.refusals.Refusal.{Refusal}
+
+-- where a write to a text went well, bs stands behind what the text had before
+abbrev pub Adds : {X E Z : Type 0} → Result X E → String Z → List ℕ → String Z → Type 0
+Adds r before bs after = made r (λ _. string-bytes after ≡ string-bytes before ++ bs)
 
 -- so many hundredths of the money unit
 abbrev pub hundredths : ℕ → List ℕ
@@ -69,16 +79,28 @@ abbrev pub rows : ℕ → (ℕ → List ℕ) → List ℕ
 rows zero f = []
 rows (suc n) f = rows n f ++ f n
 
-abbrev pub bid-rows : List ℕ → List Bid → List ℕ
-bid-rows word bs = rows (length bs) (λ k. bid-row word k (bid bs k))
+-- the rows of the k-th buy, sell and line of a market
+abbrev pub nth-buy : Market → ℕ → List ℕ
+nth-buy m k = bid-row (codes "buy") k (bid (m .buys) k)
 
-abbrev pub line-rows : List Line → List ℕ
-line-rows ls = rows (length ls) (λ k. line-row k (line ls k))
+abbrev pub nth-sell : Market → ℕ → List ℕ
+nth-sell m k = bid-row (codes "sell") k (bid (m .sells) k)
+
+abbrev pub nth-line : Market → ℕ → List ℕ
+nth-line m k = line-row k (line (m .lines) k)
+
+-- and of them all
+abbrev pub buy-rows : Market → List ℕ
+buy-rows m = rows (length (m .buys)) (nth-buy m)
+
+abbrev pub sell-rows : Market → List ℕ
+sell-rows m = rows (length (m .sells)) (nth-sell m)
+
+abbrev pub line-rows : Market → List ℕ
+line-rows m = rows (length (m .lines)) (nth-line m)
 
 abbrev pub market-rows : Market → List ℕ
-market-rows m =
-    zones-row (m .zones)
-    ++ bid-rows (codes "buy") (m .buys) ++ bid-rows (codes "sell") (m .sells) ++ line-rows (m .lines)
+market-rows m = zones-row (m .zones) ++ buy-rows m ++ sell-rows m ++ line-rows m
 
 abbrev pub listing-of : List ℕ → List ℕ
 listing-of bs = elim (refusal-of bs) [ Some r ↦ row (refused r ∷ []) | None ↦ market-rows (market-of bs) ]

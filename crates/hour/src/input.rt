@@ -87,7 +87,7 @@ pub struct Told;
 pub fn tell(
     rt: &LibcRuntime,
     program: &str,
-    files: &str,
+    usage: &str,
     run: Result<(), Fault>,
 ) -> Result<(), Told>
     ensures { λ r. ⌜ isOk r ≡ isOk run ⌝ }
@@ -95,7 +95,7 @@ pub fn tell(
     match run {
         Ok(()) => Ok(()),
         Err(fault) => {
-            let _ = eprintln!(rt, "{program}: {fault}; usage: {program} {files}");
+            let _ = eprintln!(rt, "{program}: {fault}; usage: {usage}");
             Err(Told)
         }
     }

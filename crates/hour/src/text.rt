@@ -1,11 +1,9 @@
 // An hour as text: a row for the zones, and one for each buy, sell and line; or the row of its refusal.
-ghost use mathlib.Core.List.{_++_};
 ghost use mathlib.Core.Path.{_≡_};
-ghost use lib.Chars.{codes};
 ghost use Rattle.std.specs.Of.String.{string-bytes};
 ghost use Rattle.std.specs.Vec.{made};
 ghost use Rattle.hour.specs.Bytes.{market-of};
-ghost use Rattle.hour.specs.Text.{refused, zones-row, bid-row, line-row, bid-rows, line-rows, market-rows, listing-of};
+ghost use Rattle.hour.specs.Text.{Adds, bid-row, line-row, buy-rows, sell-rows, line-rows, market-rows, listing-of};
 use crate::items::Bid;
 use crate::items::Line;
 use crate::money::Price;
@@ -19,7 +17,7 @@ use std::fmt;
 
 // The bid with the number `k` of its list, which `word` calls buy or sell.
 fn bid_row(text: &mut String, word: &str, k: usize, bid: Bid) -> fmt::Result
-    ensures { λ r. ⌜ made r (λ _. string-bytes (now (text .exit)) ≡ string-bytes (now (text .entry)) ++ bid-row (now (word .entry)) k bid) ⌝ }
+    ensures { λ r. ⌜ Adds r (now (text .entry)) (bid-row (now (word .entry)) k bid) (now (text .exit)) ⌝ }
 {
     let Bid {
         zone,
@@ -31,14 +29,14 @@ fn bid_row(text: &mut String, word: &str, k: usize, bid: Bid) -> fmt::Result
 }
 
 fn line_row(text: &mut String, k: usize, line: Line) -> fmt::Result
-    ensures { λ r. ⌜ made r (λ _. string-bytes (now (text .exit)) ≡ string-bytes (now (text .entry)) ++ line-row k line) ⌝ }
+    ensures { λ r. ⌜ Adds r (now (text .entry)) (line-row k line) (now (text .exit)) ⌝ }
 {
     let Line { from, to, capacity } = line;
     writeln!(text, "line {k} from {from} to {to} capacity {capacity}")
 }
 
 fn buy_rows(text: &mut String, hour: Hour<'_>) -> fmt::Result
-    ensures { λ r. ⌜ made r (λ _. string-bytes (now (text .exit)) ≡ string-bytes (now (text .entry)) ++ bid-rows (codes "buy") (market-of (now (hour .entry .bytes)) .buys)) ⌝ }
+    ensures { λ r. ⌜ Adds r (now (text .entry)) (buy-rows (market-of (now (hour .entry .bytes)))) (now (text .exit)) ⌝ }
 {
     for k in 0..hour.buys() {
         bid_row(text, "buy", k, hour.buy(k))?;
@@ -47,7 +45,7 @@ fn buy_rows(text: &mut String, hour: Hour<'_>) -> fmt::Result
 }
 
 fn sell_rows(text: &mut String, hour: Hour<'_>) -> fmt::Result
-    ensures { λ r. ⌜ made r (λ _. string-bytes (now (text .exit)) ≡ string-bytes (now (text .entry)) ++ bid-rows (codes "sell") (market-of (now (hour .entry .bytes)) .sells)) ⌝ }
+    ensures { λ r. ⌜ Adds r (now (text .entry)) (sell-rows (market-of (now (hour .entry .bytes)))) (now (text .exit)) ⌝ }
 {
     for k in 0..hour.sells() {
         bid_row(text, "sell", k, hour.sell(k))?;
@@ -56,7 +54,7 @@ fn sell_rows(text: &mut String, hour: Hour<'_>) -> fmt::Result
 }
 
 fn line_rows(text: &mut String, hour: Hour<'_>) -> fmt::Result
-    ensures { λ r. ⌜ made r (λ _. string-bytes (now (text .exit)) ≡ string-bytes (now (text .entry)) ++ line-rows (market-of (now (hour .entry .bytes)) .lines)) ⌝ }
+    ensures { λ r. ⌜ Adds r (now (text .entry)) (line-rows (market-of (now (hour .entry .bytes)))) (now (text .exit)) ⌝ }
 {
     for k in 0..hour.lines() {
         line_row(text, k, hour.line(k))?;
@@ -65,7 +63,7 @@ fn line_rows(text: &mut String, hour: Hour<'_>) -> fmt::Result
 }
 
 fn market_rows(text: &mut String, hour: Hour<'_>) -> fmt::Result
-    ensures { λ r. ⌜ made r (λ _. string-bytes (now (text .exit)) ≡ string-bytes (now (text .entry)) ++ market-rows (market-of (now (hour .entry .bytes)))) ⌝ }
+    ensures { λ r. ⌜ Adds r (now (text .entry)) (market-rows (market-of (now (hour .entry .bytes)))) (now (text .exit)) ⌝ }
 {
     let zones = hour.zones();
     writeln!(text, "zones {zones}")?;
@@ -75,7 +73,7 @@ fn market_rows(text: &mut String, hour: Hour<'_>) -> fmt::Result
 }
 
 fn write_listing(text: &mut String, bytes: &[u8]) -> fmt::Result
-    ensures { λ r. ⌜ made r (λ _. string-bytes (now (text .exit)) ≡ string-bytes (now (text .entry)) ++ listing-of (now (bytes .entry))) ⌝ }
+    ensures { λ r. ⌜ Adds r (now (text .entry)) (listing-of (now (bytes .entry))) (now (text .exit)) ⌝ }
 {
     if let Some(refusal) = refusal(bytes) {
         return writeln!(text, "{refusal}");

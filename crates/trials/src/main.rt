@@ -111,5 +111,10 @@ fn run(rt: &LibcRuntime) -> Result<(), Fault> {
 }
 
 fn main(rt: LibcRuntime) -> Result<(), Told> {
-    tell(&rt, "trials", "", run(&rt))
+    tell(
+        &rt,
+        "trials",
+        "trials, where refused/ and worked/ stand",
+        run(&rt),
+    )
 }

@@ -2,11 +2,9 @@ use mathlib.Core.List.{_++_}
 use mathlib.Core.Path.{_≡_}
 use Rattle.std.specs.Of.String.{string-bytes}
 use Rattle.hour.specs.Bytes.{market-of}
-use Rattle.hour.specs.Market.{line}
-use Rattle.hour.specs.Text.{rows, line-row}
+use Rattle.hour.specs.Text.{rows, nth-line}
 use Rattle.hour.proofs.text.line_rows.Given as given
 
 abbrev pub Inv-loop-k : given.InvT-loop-k
 Inv-loop-k l =
-    string-bytes (l .text)
-    ≡ string-bytes (l .entry .text) ++ rows (l .k) (λ k. line-row k (line (market-of (l .hour .bytes .now) .lines) k))
+    string-bytes (l .text) ≡ string-bytes (l .entry .text) ++ rows (l .k) (nth-line (market-of (l .hour .bytes .now)))
