@@ -1,6 +1,6 @@
 -- Laws of `rows`, for every loop that writes a row a turn. Assumes nothing.
 use mathlib.Core.List.{List, _++_, append-assoc}
-use mathlib.Core.Path.{_≡_, refl, sym, ap, ap₂, _∙_}
+use mathlib.Core.Path.{_≡_, sym, ap, _∙_}
 use Prim.Native.Nat.{ℕ, zero, suc, _+_}
 use native.Mathlib.Numerals.{add-one}
 use Rattle.hour.specs.Text.{rows}
@@ -11,9 +11,9 @@ module _ (f : ℕ → List ℕ) where
 
   -- a turn that puts the n-th row behind the n rows before it
   pub row-added :
-      (start before after row : List ℕ) (n : ℕ) → before ≡ start ++ rows n f → after ≡ before ++ row → row ≡ f n →
+      (start before after : List ℕ) (n : ℕ) → before ≡ start ++ rows n f → after ≡ before ++ f n →
       after ≡ start ++ rows (n + 1) f
-  row-added start before after row n so-far adds is =
-      adds ∙ ap₂ _++_ so-far is
+  row-added start before after n so-far adds =
+      adds ∙ ap (λ (l : List ℕ). l ++ f n) so-far
       ∙ append-assoc start (rows n f) (f n)
       ∙ ap (λ (l : List ℕ). start ++ l) (sym (rows-more n))

@@ -1,9 +1,10 @@
 // An hour as text: a row for the zones, and one for each buy, sell and line; or the row of its refusal.
 ghost use mathlib.Core.Path.{_≡_};
+ghost use Prim.Native.Nat.{_<_};
 ghost use Rattle.std.specs.Of.String.{string-bytes};
 ghost use Rattle.std.specs.Vec.{made};
 ghost use Rattle.hour.specs.Bytes.{market-of};
-ghost use Rattle.hour.specs.Text.{Adds, bid-row, line-row, buy-rows, sell-rows, line-rows, market-rows, listing-of};
+ghost use Rattle.hour.specs.Text.{Adds, bid-row, nth-buy, nth-sell, nth-line, buy-rows, sell-rows, line-rows, market-rows, listing-of};
 use crate::items::Bid;
 use crate::items::Line;
 use crate::money::Price;
@@ -28,10 +29,25 @@ fn bid_row(text: &mut String, word: &str, k: usize, bid: Bid) -> fmt::Result
     writeln!(text, "{word} {k} zone {zone} price {price} amount {amount}")
 }
 
-fn line_row(text: &mut String, k: usize, line: Line) -> fmt::Result
-    ensures { λ r. ⌜ Adds r (now (text .entry)) (line-row k line) (now (text .exit)) ⌝ }
+fn buy_row(text: &mut String, hour: Hour<'_>, k: usize) -> fmt::Result
+    requires { ⌜ k < hour .buys ⌝ }
+    ensures { λ r. ⌜ Adds r (now (text .entry)) (nth-buy (market-of (now (hour .entry .bytes))) k) (now (text .exit)) ⌝ }
 {
-    let Line { from, to, capacity } = line;
+    bid_row(text, "buy", k, hour.buy(k))
+}
+
+fn sell_row(text: &mut String, hour: Hour<'_>, k: usize) -> fmt::Result
+    requires { ⌜ k < hour .sells ⌝ }
+    ensures { λ r. ⌜ Adds r (now (text .entry)) (nth-sell (market-of (now (hour .entry .bytes))) k) (now (text .exit)) ⌝ }
+{
+    bid_row(text, "sell", k, hour.sell(k))
+}
+
+fn line_row(text: &mut String, hour: Hour<'_>, k: usize) -> fmt::Result
+    requires { ⌜ k < hour .lines ⌝ }
+    ensures { λ r. ⌜ Adds r (now (text .entry)) (nth-line (market-of (now (hour .entry .bytes))) k) (now (text .exit)) ⌝ }
+{
+    let Line { from, to, capacity } = hour.line(k);
     writeln!(text, "line {k} from {from} to {to} capacity {capacity}")
 }
 
@@ -39,7 +55,7 @@ fn buy_rows(text: &mut String, hour: Hour<'_>) -> fmt::Result
     ensures { λ r. ⌜ Adds r (now (text .entry)) (buy-rows (market-of (now (hour .entry .bytes)))) (now (text .exit)) ⌝ }
 {
     for k in 0..hour.buys() {
-        bid_row(text, "buy", k, hour.buy(k))?;
+        buy_row(text, hour, k)?;
     }
     Ok(())
 }
@@ -48,7 +64,7 @@ fn sell_rows(text: &mut String, hour: Hour<'_>) -> fmt::Result
     ensures { λ r. ⌜ Adds r (now (text .entry)) (sell-rows (market-of (now (hour .entry .bytes)))) (now (text .exit)) ⌝ }
 {
     for k in 0..hour.sells() {
-        bid_row(text, "sell", k, hour.sell(k))?;
+        sell_row(text, hour, k)?;
     }
     Ok(())
 }
@@ -57,7 +73,7 @@ fn line_rows(text: &mut String, hour: Hour<'_>) -> fmt::Result
     ensures { λ r. ⌜ Adds r (now (text .entry)) (line-rows (market-of (now (hour .entry .bytes)))) (now (text .exit)) ⌝ }
 {
     for k in 0..hour.lines() {
-        line_row(text, k, hour.line(k))?;
+        line_row(text, hour, k)?;
     }
     Ok(())
 }
