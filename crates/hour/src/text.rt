@@ -32,28 +32,32 @@ fn bid_row(text: &mut String, word: &str, k: usize, bid: Bid) -> fmt::Result
 
 fn buy_row(text: &mut String, hour: Hour<'_>, k: usize) -> fmt::Result
     requires { ⌜ k < hour .buys ⌝ }
-    ensures { λ r. ⌜ Adds r (now (text .entry)) (nth-buy (market-of (now (hour .entry .bytes))) k) (now (text .exit)) ⌝ }
+    ensures { λ r.
+        ⌜ Adds r (now (text .entry)) (nth-buy (market-of (now (hour .entry .bytes))) k) (now (text .exit)) ⌝ }
 {
     bid_row(text, "buy", k, hour.buy(k))
 }
 
 fn sell_row(text: &mut String, hour: Hour<'_>, k: usize) -> fmt::Result
     requires { ⌜ k < hour .sells ⌝ }
-    ensures { λ r. ⌜ Adds r (now (text .entry)) (nth-sell (market-of (now (hour .entry .bytes))) k) (now (text .exit)) ⌝ }
+    ensures { λ r.
+        ⌜ Adds r (now (text .entry)) (nth-sell (market-of (now (hour .entry .bytes))) k) (now (text .exit)) ⌝ }
 {
     bid_row(text, "sell", k, hour.sell(k))
 }
 
 fn line_row(text: &mut String, hour: Hour<'_>, k: usize) -> fmt::Result
     requires { ⌜ k < hour .lines ⌝ }
-    ensures { λ r. ⌜ Adds r (now (text .entry)) (nth-line (market-of (now (hour .entry .bytes))) k) (now (text .exit)) ⌝ }
+    ensures { λ r.
+        ⌜ Adds r (now (text .entry)) (nth-line (market-of (now (hour .entry .bytes))) k) (now (text .exit)) ⌝ }
 {
     let Line { from, to, capacity } = hour.line(k);
     writeln!(text, "line {k} from {from} to {to} capacity {capacity}")
 }
 
 fn buy_rows(text: &mut String, hour: Hour<'_>) -> fmt::Result
-    ensures { λ r. ⌜ Adds r (now (text .entry)) (buy-rows (market-of (now (hour .entry .bytes)))) (now (text .exit)) ⌝ }
+    ensures { λ r.
+        ⌜ Adds r (now (text .entry)) (buy-rows (market-of (now (hour .entry .bytes)))) (now (text .exit)) ⌝ }
 {
     for k in 0..hour.buys() {
         buy_row(text, hour, k)?;
@@ -62,7 +66,8 @@ fn buy_rows(text: &mut String, hour: Hour<'_>) -> fmt::Result
 }
 
 fn sell_rows(text: &mut String, hour: Hour<'_>) -> fmt::Result
-    ensures { λ r. ⌜ Adds r (now (text .entry)) (sell-rows (market-of (now (hour .entry .bytes)))) (now (text .exit)) ⌝ }
+    ensures { λ r.
+        ⌜ Adds r (now (text .entry)) (sell-rows (market-of (now (hour .entry .bytes)))) (now (text .exit)) ⌝ }
 {
     for k in 0..hour.sells() {
         sell_row(text, hour, k)?;
@@ -71,7 +76,8 @@ fn sell_rows(text: &mut String, hour: Hour<'_>) -> fmt::Result
 }
 
 fn line_rows(text: &mut String, hour: Hour<'_>) -> fmt::Result
-    ensures { λ r. ⌜ Adds r (now (text .entry)) (line-rows (market-of (now (hour .entry .bytes)))) (now (text .exit)) ⌝ }
+    ensures { λ r.
+        ⌜ Adds r (now (text .entry)) (line-rows (market-of (now (hour .entry .bytes)))) (now (text .exit)) ⌝ }
 {
     for k in 0..hour.lines() {
         line_row(text, hour, k)?;
@@ -80,7 +86,8 @@ fn line_rows(text: &mut String, hour: Hour<'_>) -> fmt::Result
 }
 
 fn market_rows(text: &mut String, hour: Hour<'_>) -> fmt::Result
-    ensures { λ r. ⌜ Adds r (now (text .entry)) (market-rows (market-of (now (hour .entry .bytes)))) (now (text .exit)) ⌝ }
+    ensures { λ r.
+        ⌜ Adds r (now (text .entry)) (market-rows (market-of (now (hour .entry .bytes)))) (now (text .exit)) ⌝ }
 {
     let zones = hour.zones();
     writeln!(text, "zones {zones}")?;
