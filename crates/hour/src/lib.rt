@@ -1,8 +1,8 @@
 // One hour of the market, from its bytes to its bids and lines and back.
 mod books;
 mod facts;
-mod items;
 mod input;
+mod items;
 mod money;
 pub mod promises;
 mod reading;
@@ -37,3 +37,4 @@ pub use refusals::RefusalDisplay;
 pub use refusals::Sort;
 pub use text::listing;
 pub use view::Hour;
+pub use writing::write;

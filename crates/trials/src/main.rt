@@ -1,6 +1,9 @@
-// Sample hours: what is listed of the refused and of the worked ones, and the counts of hours at the limits.
+// Sample hours: what is listed of the refused and of the worked ones, the counts of hours at the limits, and whether each
+// hour is written back as it was read.
+mod copies;
 mod limits;
 
+use crate::copies::written_back;
 use crate::limits::Counts;
 use crate::limits::hour_of;
 use hour::Fault;
@@ -69,12 +72,24 @@ fn refused_hours(rt: &LibcRuntime) -> Result<(), Fault> {
     Ok(())
 }
 
+fn copy_word(written_back: bool) -> &'static str {
+    if written_back {
+        "written back"
+    } else {
+        "not written back"
+    }
+}
+
 fn worked_hours(rt: &LibcRuntime) -> Result<(), Fault> {
     let heap = rt.alloc();
     for name in WORKED {
         let bytes = read_file(rt, format!(heap, "worked/{name}.bin")?)?;
         let text = listing(heap, bytes.as_slice())?;
-        write_answer(rt, format!(heap, "worked {name}\n{text}")?.as_str())?;
+        let copied = copy_word(written_back(heap, bytes.as_slice())?);
+        write_answer(
+            rt,
+            format!(heap, "worked {name}\n{text}{copied}\n")?.as_str(),
+        )?;
     }
     Ok(())
 }
@@ -99,7 +114,8 @@ fn hours_at_limits(rt: &LibcRuntime) -> Result<(), Fault> {
     for counts in LIMITS {
         let bytes = hour_of(heap, counts)?;
         let text = counts_read(heap, bytes.as_slice())?;
-        write_answer(rt, text.as_str())?;
+        let copied = copy_word(written_back(heap, bytes.as_slice())?);
+        write_answer(rt, format!(heap, "{text}{copied}\n")?.as_str())?;
     }
     Ok(())
 }
