@@ -9,7 +9,8 @@ use native.Mathlib.Omega.{arith}
 use lib.Dec.{eqb, leb}
 use lib.ListN.{length}
 use Rattle.std.proofs.shelf.Counted.{length-map-counting, getD-map-counting}
-use Rattle.std.proofs.shelf.Tests.{eqb-true, eqb-false, ltb-false, not-false, cond-true, le-leb, le-ltb, ne-eqb, eq-eqb, or-parts, or-from, not-from-true}
+use Rattle.std.proofs.shelf.Tests.{eqb-true, eqb-false, ltb-false, not-false, cond-true, le-leb, le-ltb, ne-eqb}
+use Rattle.std.proofs.shelf.Tests.{eq-eqb, or-parts, or-from, not-from-true}
 use Rattle.std.specs.Options.{isSome}
 use Rattle.std.specs.declared.option.Option.{Option}
 use Rattle.std.specs.declared.option.Option.the-variants.{Some, None}
@@ -20,8 +21,10 @@ use Rattle.hour.specs.declared.items.Line.{Line}
 use Rattle.hour.specs.declared.reading.Head.{Head}
 use Rattle.hour.specs.declared.refusals.Refusal.{Refusal}
 use Rattle.hour.specs.First.{_else_}
-use Rattle.hour.specs.Rules.{item-fault, max-zones, max-bids, max-lines, bids-fault, all-lines-fault, bid-fault, line-fault, bid-place, line-place, zones-fault, buys-fault, sells-fault, lines-fault}
-use Rattle.hour.specs.Bytes.{byte, two, size-said, head-fault, head-of, head-read, bids-read, lines-read, bids-said, lines-said, bid-at, line-at, in-first, items-read, market-of, refusal-of}
+use Rattle.hour.specs.Rules.{item-fault, max-zones, max-bids, max-lines, bids-fault, all-lines-fault, bid-fault}
+use Rattle.hour.specs.Rules.{line-fault, bid-place, line-place, zones-fault, buys-fault, sells-fault, lines-fault}
+use Rattle.hour.specs.Bytes.{byte, two, size-said, head-fault, head-of, head-read, bids-read, lines-read, bids-said}
+use Rattle.hour.specs.Bytes.{lines-said, bid-at, line-at, in-first, items-read, market-of, refusal-of}
 use Rattle.hour.proofs.First.{first-same, else-none, else-none-left, else-none-right, when-none, when-false}
 
 cond-same : {A : Type 0} (b : Bool) (x : A) → cond b x x ≡ x

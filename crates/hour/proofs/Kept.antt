@@ -18,7 +18,8 @@ use Rattle.hour.specs.declared.refusals.Refusal.{Refusal}
 use Rattle.hour.specs.Bytes.{byte, two, bid-at, line-at, head-fault, market-of, refusal-of}
 use Rattle.hour.specs.First.{_else_, first}
 use Rattle.hour.specs.Market.{Market, bid, line}
-use Rattle.hour.specs.Rules.{bid-place, line-place, bid-fault, line-fault, bids-fault, all-lines-fault, item-fault, shape-fault, Bid-kept, Line-kept, Keeps-rules}
+use Rattle.hour.specs.Rules.{bid-place, line-place, bid-fault, line-fault, bids-fault, all-lines-fault, item-fault}
+use Rattle.hour.specs.Rules.{shape-fault, Bid-kept, Line-kept, Keeps-rules}
 use Rattle.hour.proofs.First.{is-none, else-none, else-none-left, else-none-right, when-none, when-false, first-none, first-all}
 use Rattle.hour.proofs.Heads.{Sound, sound-head}
 

@@ -6,3 +6,4 @@ pub mod Pasted
 pub mod Numbers
 pub mod ReadBack
 pub mod WrittenBack
+pub mod Rows

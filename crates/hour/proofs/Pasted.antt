@@ -7,7 +7,8 @@ use native.Mathlib.Omega.{arith}
 use lib.ListN.{length, getD, take, drop, set}
 use lib.Seq.{paste}
 use Rattle.std.proofs.shelf.Edits.{paste-more, paste-paste, paste-all}
-use Rattle.std.proofs.shelf.Lists.{append-nil, length-append, length-take-le, take-all, take-append-drop, take-more, drop-more, joined-more}
+use Rattle.std.proofs.shelf.Lists.{append-nil, length-append, length-take-le, take-all, take-append-drop, take-more}
+use Rattle.std.proofs.shelf.Lists.{drop-more, joined-more}
 use Rattle.std.specs.Joined.{joined}
 use Rattle.hour.specs.declared.items.Bid.{Bid}
 use Rattle.hour.specs.declared.items.Line.{Line}

@@ -7,13 +7,15 @@ use native.Mathlib.Nat.{zero-add, add-zero, mul-zero, mul-suc}
 use native.Mathlib.Omega.{arith}
 use lib.ListN.{length, getD}
 use Rattle.std.proofs.shelf.Counted.{length-map-counting, getD-map-counting}
-use Rattle.std.proofs.shelf.Lists.{append-assoc, append-nil, length-append, getD-append-left, getD-append-add, same-lists, getD-default}
+use Rattle.std.proofs.shelf.Lists.{append-assoc, append-nil, length-append, getD-append-left, getD-append-add}
+use Rattle.std.proofs.shelf.Lists.{same-lists, getD-default}
 use Rattle.std.specs.Joined.{joined}
 use Rattle.std.specs.declared.option.Option.the-variants.{None}
 use Rattle.hour.specs.declared.items.Bid.{Bid}
 use Rattle.hour.specs.declared.items.Line.{Line}
 use Rattle.hour.specs.Books.{size-of}
-use Rattle.hour.specs.Bytes.{size-said, byte, two, three, bid-at, line-at, bids-said, lines-said, market-of, head-fault, refusal-of, head-bytes, bid-bytes, line-bytes, bytes-of}
+use Rattle.hour.specs.Bytes.{size-said, byte, two, three, bid-at, line-at, bids-said, lines-said, market-of}
+use Rattle.hour.specs.Bytes.{head-fault, refusal-of, head-bytes, bid-bytes, line-bytes, bytes-of}
 use Rattle.hour.specs.Listed.{listed}
 use Rattle.hour.specs.Market.{Market, bid, line}
 use Rattle.hour.specs.Promises.{Read-back}

@@ -13,7 +13,8 @@ use Rattle.std.specs.Joined.{joined}
 use Rattle.std.specs.declared.option.Option.the-variants.{None}
 use Rattle.hour.specs.declared.items.Bid.{Bid}
 use Rattle.hour.specs.declared.items.Line.{Line}
-use Rattle.hour.specs.Bytes.{byte, two, three, low-bytes, bid-at, line-at, market-of, refusal-of, head-bytes, bid-bytes, line-bytes, bytes-of, size-said}
+use Rattle.hour.specs.Bytes.{byte, two, three, low-bytes, bid-at, line-at, market-of, refusal-of, head-bytes}
+use Rattle.hour.specs.Bytes.{bid-bytes, line-bytes, bytes-of, size-said}
 use Rattle.hour.specs.Listed.{listed}
 use Rattle.hour.specs.Market.{Market}
 use Rattle.hour.specs.Promises.{Byte-string, Written-back, Only-hours}

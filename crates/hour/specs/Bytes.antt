@@ -22,7 +22,8 @@ use Rattle.std.specs.declared.result.Result.the-variants.{Ok, Err}
 use Rattle.hour.specs.First.{when, _else_, first}
 use Rattle.hour.specs.Listed.{listed}
 use Rattle.hour.specs.Market.{Market}
-use Rattle.hour.specs.Rules.{bid-place, line-place, bid-fault, line-fault, zones-fault, buys-fault, sells-fault, lines-fault, item-fault}
+use Rattle.hour.specs.Rules.{bid-place, line-place, bid-fault, line-fault, zones-fault, buys-fault, sells-fault}
+use Rattle.hour.specs.Rules.{lines-fault, item-fault}
 use Rattle.hour.specs.declared.items.Bid.{Bid}
 use Rattle.hour.specs.declared.items.Line.{Line}
 use Rattle.hour.specs.declared.reading.Head.{Head}

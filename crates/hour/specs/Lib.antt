@@ -7,3 +7,4 @@ pub mod Rules
 pub mod Bytes
 pub mod Books
 pub mod Promises
+pub mod Text

@@ -7,7 +7,8 @@ use Prim.Native.Nat.{ℕ}
 use Rattle.hour.specs.declared.refusals.Sort.{Sort}
 use Rattle.hour.specs.declared.refusals.Sort.the-variants.{Buy, Sell, Line}
 use Rattle.hour.specs.declared.refusals.Refusal.{Refusal}
-use Rattle.hour.specs.declared.refusals.Refusal.the-variants.{Length, Zones, TooMany, BidZone, BidPrice, BidAmount, LineZone, LineCapacity, Lent}
+use Rattle.hour.specs.declared.refusals.Refusal.the-variants.{Length, Zones, TooMany, BidZone, BidPrice, BidAmount}
+use Rattle.hour.specs.declared.refusals.Refusal.the-variants.{LineZone, LineCapacity, Lent}
 
 abbrev pub number-of : Refusal → ℕ
 number-of (Length came) = 1

@@ -18,7 +18,8 @@ use Rattle.hour.specs.Market.{Market, bid, line}
 use Rattle.hour.specs.declared.items.Bid.{Bid}
 use Rattle.hour.specs.declared.items.Line.{Line}
 use Rattle.hour.specs.declared.refusals.Refusal.{Refusal}
-use Rattle.hour.specs.declared.refusals.Refusal.the-variants.{Zones, TooMany, BidZone, BidPrice, BidAmount, LineZone, LineCapacity}
+use Rattle.hour.specs.declared.refusals.Refusal.the-variants.{Zones, TooMany, BidZone, BidPrice, BidAmount, LineZone}
+use Rattle.hour.specs.declared.refusals.Refusal.the-variants.{LineCapacity}
 use Rattle.hour.specs.declared.refusals.Sort.the-variants as sorts
 
 -- the limits, all of them

@@ -1,6 +1,9 @@
 // Why an hour is refused: each case holds what it refuses, and where that stands.
 ghost use mathlib.Core.Path.{_≡_};
+ghost use Rattle.std.specs.declared.option.Option.the-variants.{Some};
 ghost use Rattle.hour.specs.Refusals.{count-place, number-of, place-of};
+ghost use Rattle.hour.specs.Text.{refused};
+use std::fmt;
 
 // The three sorts of an hour's entries.
 #[derive(Clone, Copy, PartialEq, Eq)]
@@ -78,5 +81,16 @@ impl Refusal {
             Refusal::LineCapacity { at, .. } => at,
             Refusal::Lent { slice } => slice,
         }
+    }
+}
+
+// A refusal as the office publishes it.
+pub impl fmt::Display for Refusal as RefusalDisplay {
+    ghost shown = { λ r. Some (refused r) };
+
+    fn fmt<W: fmt::Write>(&self, f: &mut fmt::Formatter<W>) -> fmt::Result {
+        let number = self.number();
+        let place = self.place();
+        write!(f, "refused {number} at {place}")
     }
 }
