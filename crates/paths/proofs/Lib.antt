@@ -1,1 +1,3 @@
+pub mod Best
+pub mod Bids
 pub mod Keys
