@@ -1,3 +1,5 @@
 pub mod Best
 pub mod Bids
+pub mod Steps
 pub mod Keys
+pub mod Labels
