@@ -82,6 +82,11 @@ giving-among m (Buy k) h = h
 giving-among m (Sell k) h = h
 giving-among m (Line k) h = h
 
+-- a worth is that of a bid
+pub worth-some : (m : Market) (r : Option ℕ) → 0 < worth-at m r → (k : ℕ) × (r ≡ Some k)
+worth-some m None some = absurd (omega arith)
+worth-some m (Some k) some = (k, refl)
+
 -- a bid of zone z, numbered k, with a free step s that is worth c as a table has it
 pub record Found (m : Market) (o : Outcome) (s : Step) (z k c : ℕ) : Type 0 where
   pub below : k < bids m
@@ -114,11 +119,6 @@ module _ (m : Market) (o : Outcome) (z : ℕ) where
         free = record { among = giving-among m (item-no m k) (numbers .among); room = ltb-true _ _ (tests .1) };
         worth = ap (worth-at m) some;
       }
-
-  -- a worth is that of a bid
-  pub worth-some : (r : Option ℕ) → 0 < worth-at m r → (k : ℕ) × (r ≡ Some k)
-  worth-some None some = absurd (omega arith)
-  worth-some (Some k) some = (k, refl)
 
   -- a bid that can take is worth no more than the zone's taker
   pub own-most :

@@ -3,3 +3,5 @@ pub mod Bids
 pub mod Steps
 pub mod Keys
 pub mod Labels
+pub mod OnePlan
+pub mod WaysOut
