@@ -1,2 +1,12 @@
+pub mod Best
+pub mod Bids
 pub mod Noted
 pub mod Looked
+pub mod Steps
+pub mod Keys
+pub mod Labels
+pub mod Raised
+pub mod Ends
+pub mod Rounds
+pub mod OnePlan
+pub mod WaysOut

@@ -10,22 +10,27 @@
 --   noted wins ok ws xs z new x   xs with x in place z, if ok and the worth `new` wins over the one that ws has there
 --   rises worth far v w    the way over a line from v to w is better than the one that v has
 --   Labelled m o worth far each label is that of a way, and none is below the zone's own taker
---   Relaxed m o worth far l   line l raises no label
+--   Relaxed m o worth far l   line l, forward or backward, raises no label
+--   Settling, Raised       what holds of labels while they are raised; what raising some of them keeps
 use mathlib.Core.Bool.{Bool, cond, _&&_, _||_}
 use mathlib.Core.List.{List}
 use mathlib.Core.Path.{_≡_}
-use Prim.Native.Nat.{ℕ, suc, _+_, _^_, _≤_, _<_}
+use Prim.Native.Nat.{ℕ, suc, _+_, _-_, _^_, _≤_, _<_}
 use denote.Ref.{now}
 use lib.Dec.{eqb, ltb}
 use lib.ListN.{length, set}
 use Rattle.hour.specs.Market.{Market, Outcome, Proper, at, bid}
 use Rattle.hour.specs.declared.items.Bid.{Bid}
 use Rattle.network.specs.Tables.{items, market-in, outcome-in}
+use Rattle.network.specs.declared.arcs.Item.the-variants.{Line}
+use Rattle.network.specs.declared.arcs.Step.{Step}
+use Rattle.network.specs.declared.arcs.Step.the-variants.{Forward, Backward}
 use Rattle.network.specs.declared.tables.Amounts.{Amounts}
 use Rattle.network.specs.declared.tables.Tables.{Tables}
 use Rattle.paths.specs.Best.{best, numbered}
 use Rattle.paths.specs.Bids.{item-no, zone-of, price-of, takes, gives, dearer, cheaper, worth-at, own}
-use Rattle.paths.specs.Labels.{Along, Over, No-better}
+use Rattle.paths.specs.Keys.{Keyed, left}
+use Rattle.paths.specs.Labels.{Along, Leads, No-better}
 
 abbrev pub market-given : Tables → Market
 market-given t = market-in (t .zones) (now (t .buys)) (now (t .sells)) (now (t .lines))
@@ -94,6 +99,30 @@ pub record Labelled (m : Market) (o : Outcome) (worth far : List ℕ) : Type 0 w
   pub none : (v : ℕ) → v < m .zones → at worth v ≡ 0 → at far v ≡ 0
   pub own : (v : ℕ) → v < m .zones → 0 < own m o v → No-better (own m o v) 0 (at worth v) (at far v)
 
+-- no way over the step s beats the label of the zone where it begins
+abbrev pub Relaxed-by : Market → Outcome → List ℕ → List ℕ → Step → Type 0
+Relaxed-by m o worth far s =
+    (v w : ℕ) → Leads m o v w s → 0 < at worth w → No-better (at worth w) (suc (at far w)) (at worth v) (at far v)
+
 abbrev pub Relaxed : Market → Outcome → List ℕ → List ℕ → ℕ → Type 0
 Relaxed m o worth far l =
-    (v w : ℕ) → Over m o l v w → 0 < at worth w → No-better (at worth w) (suc (at far w)) (at worth v) (at far v)
+    Relaxed-by m o worth far (Forward (Line l)) × Relaxed-by m o worth far (Backward (Line l))
+
+-- number j of n, counted from the first or from the last
+abbrev pub turned : Bool → ℕ → ℕ → ℕ
+turned from-last n j = cond from-last (n - 1 - j) j
+
+-- one more than every price
+abbrev pub top : ℕ
+top = 2 ^ 32
+
+pub record Settling (t : Tables) (o : Amounts) (worth far : List ℕ) : Type 0 where
+  pub labelled : Labelled (market-given t) (outcome-given o) worth far
+  pub keyed : Keyed (t .zones) top worth far
+
+-- from one pair of tables to another by raising so many labels
+pub record Raised (t : Tables) (o : Amounts) (worth far : List ℕ) (rose : ℕ) (worth′ far′ : List ℕ) : Type 0 where
+  pub settling : Settling t o worth′ far′
+  pub falls : rose + left (t .zones) top worth′ far′ ≤ left (t .zones) top worth far
+  pub same-worth : rose ≡ 0 → worth′ ≡ worth
+  pub same-far : rose ≡ 0 → far′ ≡ far

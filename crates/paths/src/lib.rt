@@ -1,2 +1,3 @@
 // Shortest ways to the hub through what an outcome leaves free.
+mod relax;
 mod takers;
