@@ -5,3 +5,6 @@ pub mod Keys
 pub mod Labels
 pub mod OnePlan
 pub mod WaysOut
+pub mod Rings
+pub mod Shown
+pub mod Raising
