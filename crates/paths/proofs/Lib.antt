@@ -8,3 +8,4 @@ pub mod WaysOut
 pub mod Rings
 pub mod Shown
 pub mod Raising
+pub mod SomePlan

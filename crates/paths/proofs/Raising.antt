@@ -67,7 +67,7 @@ reaching-raised m o top worth far l v w proper r over some raises =
         | inr ne ↦ omega (arith, r .none u h (omega (arith, worth-there u ne)), far-there u ne)
       ];
       own = λ u h positive. elim (cases-eq u v) [
-        | inl e ↦ ?
+        | inl e ↦ subst⁻¹ Own e (λ at-v. better-here (r .own v (joins .from) at-v)) positive
         | inr ne ↦
             subst₂ (λ x y. No-better (own m o u) 0 x y) (sym (worth-there u ne)) (sym (far-there u ne)) (r .own u h positive)
       ];
@@ -85,8 +85,11 @@ reaching-raised m o top worth far l v w proper r over some raises =
     worth-here : at (set worth v (at worth w)) v ≡ at worth w
     worth-here = getD-set-same worth v (at worth w) 0 (omega (arith, joins .from, r .keyed .worth-long))
 
+    far-set : at (set far v (at far w + 1)) v ≡ at far w + 1
+    far-set = getD-set-same far v (at far w + 1) 0 (omega (arith, joins .from, r .keyed .far-long))
+
     far-here : suc (at far w) ≡ at (set far v (at far w + 1)) v
-    far-here = omega (arith, getD-set-same far v (at far w + 1) 0 (omega (arith, joins .from, r .keyed .far-long)))
+    far-here = omega (arith, far-set)
 
     worth-there : (u : ℕ) → u ≢ v → at (set worth v (at worth w)) u ≡ at worth u
     worth-there u ne = getD-set-other worth v u (at worth w) 0 ne
@@ -96,6 +99,16 @@ reaching-raised m o top worth far l v w proper r over some raises =
 
     Way : ℕ → Type 0
     Way u = Along m o (at (set far v (at far w + 1)) u) u (at (set worth v (at worth w)) u)
+
+    Own : ℕ → Type 0
+    Own u = 0 < own m o u → No-better (own m o u) 0 (at (set worth v (at worth w)) u) (at (set far v (at far w + 1)) u)
+
+    better-here :
+        No-better (own m o v) 0 (at worth v) (at far v) →
+        No-better (own m o v) 0 (at (set worth v (at worth w)) v) (at (set far v (at far w + 1)) v)
+    better-here old =
+        subst₂ (λ x y. No-better (own m o v) 0 x y) (sym worth-here) (sym far-set)
+        (no-better-raised _ _ _ _ _ _ old raises)
 
 -- no line raises a label
 abbrev pub Settled-labels : Market → Outcome → List ℕ → List ℕ → Type 0
