@@ -4,3 +4,4 @@ pub mod Pushed
 pub mod Paying
 pub mod Swept
 pub mod Runs
+pub mod Always

@@ -136,7 +136,7 @@ module _ (pays-off : Pays-off-law) where
 
 one-end :
     (m : Market) (t : Plan) → first-paying m t ≡ None → isSome (first-paying m t) ≡ true → ⊥
-one-end m t none some = both-ways true (ap isSome none) some
+one-end m t none some = both-ways (isSome (first-paying m t)) (ap isSome none) some
 
 module _ (one-plan : One-plan) where
   -- Idea: the tables of an outcome are one, so both runs sweep alike, or both end.
