@@ -5,3 +5,6 @@ pub mod Paying
 pub mod Swept
 pub mod Runs
 pub mod Always
+pub mod Takers
+pub mod Calm
+pub mod Fall

@@ -1,0 +1,1 @@
+-- Labels never rise.
