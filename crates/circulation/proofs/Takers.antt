@@ -20,7 +20,7 @@ pub record Chosen (n : ℕ) (ok : ℕ → Bool) (k : ℕ) : Type 0 where
   pub below : k < n
   pub good : ok k ≡ true
 
-abbrev All-chosen : ℕ → (ℕ → Bool) → Option ℕ → Type 0
+abbrev pub All-chosen : ℕ → (ℕ → Bool) → Option ℕ → Type 0
 All-chosen n ok None = Unit {0}
 All-chosen n ok (Some k) = Chosen n ok k
 
