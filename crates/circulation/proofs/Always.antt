@@ -1,18 +1,18 @@
--- Every proper market clears: a run from the outcome with nothing ends, settled. Assumes nothing but what it names.
+-- Every proper market clears: a run from the outcome with nothing ends, settled. Assumes nothing.
 use mathlib.Core.Bool.{Bool, cond, true, false}
-use mathlib.Core.List.{List, []}
+use mathlib.Core.List.{[]}
 use mathlib.Core.Path.{_≡_, refl, _∙_}
-use Prim.Native.Nat.{ℕ, zero, _-_, _<_}
+use Prim.Native.Nat.{ℕ, zero, _-_}
 use native.Mathlib.Omega.{arith}
 use lib.Dec.{eqb}
 use lib.ListN.{length}
 use Rattle.std.proofs.shelf.Lists.{length-map}
-use Rattle.hour.specs.Total.{total, tagged}
+use Rattle.hour.specs.Total.{tagged}
 use Rattle.hour.specs.Market.{Market, Outcome, Feasible, at, bid, line}
 use Rattle.hour.proofs.Total.{total-same, total-none}
 use Rattle.paths.specs.Promises.{Some-plan, Lowest-labels, prices-of}
-use Rattle.circulation.specs.Promises.{Ended, Always}
-use Rattle.circulation.proofs.Runs.{Pays-off-law, runs-reach, run-ends}
+use Rattle.circulation.specs.Promises.{Always}
+use Rattle.circulation.proofs.Runs.{Pays-off-law, run-reaches, run-ends}
 
 abbrev pub nothing : Outcome
 nothing = record { bought = []; sold = []; flow = [] }
@@ -44,7 +44,7 @@ always pays-off some-plan lowest-labels m proper =
     let start = nothing-feasible m in
     let ended = run-ends pays-off some-plan m nothing proper start in
     let t = ended .tables in
-    let end = runs-reach pays-off m proper (ended .run .0) nothing (ended .end) (ended .count) t start (ended .run .1) in
+    let end = run-reaches pays-off m nothing (ended .end) (ended .count) t proper start (ended .run) in
     let lowest = lowest-labels m (ended .end) t proper (end .sound .feasible) (end .planned) (end .none-pays) in
     record {
       outcome = ended .end;

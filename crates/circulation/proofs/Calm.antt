@@ -1,23 +1,23 @@
--- Labels as what nodes are worth: no free step out of a zone raises one, and along a best way none falls. Assumes nothing.
+-- Labels as what nodes are worth: no free step out of a zone raises one, along a best way none falls. Assumes nothing.
 use mathlib.Core.Bool.{true, cond}
 use mathlib.Core.Logic.{_≢_, inl, inr}
 use mathlib.Core.List.{List, [], _∷_}
-use mathlib.Core.Path.{_≡_, refl, sym, ap, subst, subst⁻¹, _∙_}
-use Prim.Native.Nat.{ℕ, zero, suc, _+_, _≤_, _<_}
+use mathlib.Core.Path.{_≡_, refl, ap, subst⁻¹, _∙_}
+use Prim.Native.Nat.{ℕ, _+_, _≤_, _<_}
 use native.Mathlib.Omega.{arith}
 use lib.Dec.{eqb, ltb}
 use lib.ListN.{length}
 use Rattle.std.specs.shelf.Lists.{All}
 use Rattle.std.proofs.shelf.Tests.{lt-ltb, le-ltb, eq-eqb, and-from, cases-lt}
 use Rattle.hour.specs.Market.{Market, Outcome, Proper, at, bid, line}
-use Rattle.network.specs.Network.{Among, hub}
+use Rattle.network.specs.Network.{hub}
 use Rattle.network.specs.Ways.{start, finish, step-cost, step-gain, room, Free, Links, way-cost, way-gain}
 use Rattle.network.specs.declared.arcs.Item.{Item}
 use Rattle.network.specs.declared.arcs.Item.the-variants.{Buy, Sell, Line}
 use Rattle.network.specs.declared.arcs.Step.{Step}
 use Rattle.network.specs.declared.arcs.Step.the-variants.{Forward, Backward}
 use Rattle.network.proofs.Items.{nth-buy, nth-sell}
-use Rattle.paths.specs.Bids.{bids, item-no, taking, zone-of, price-of, takes, dearer, own}
+use Rattle.paths.specs.Bids.{bids, item-no, taking, zone-of, price-of, takes, own}
 use Rattle.paths.specs.Labels.{Over}
 use Rattle.paths.specs.Plan.{Plan, Planned}
 use Rattle.circulation.proofs.Takers.{dearest}
@@ -48,13 +48,14 @@ calm-back m t (Forward i) held apart = held
 calm-back m t (Backward i) held apart = held
 
 module _ (m : Market) (o : Outcome) (t : Plan) (proper : Proper m) (planned : Planned m o t) where
-  own-label : (z k : ℕ) (i : Item) → item-no m k ≡ i → z < m .zones → k < bids m → zone-of m i ≡ z →
+  own-label :
+      (z k : ℕ) (i : Item) → item-no m k ≡ i → z < m .zones → k < bids m → zone-of m i ≡ z →
       0 < room m o (taking i) → price-of m i < at (t .worth) z
   own-label z k i is h l lies some =
       let good : takes m o z k ≡ true =
-          and-from (eqb (zone-of m (item-no m k)) z) (ltb 0 (room m o (taking (item-no m k))))
-          (eq-eqb _ _ (ap (zone-of m) is ∙ lies))
-          (lt-ltb _ _ (subst⁻¹ (λ j. 0 < room m o (taking j)) is some)) in
+      and-from (eqb (zone-of m (item-no m k)) z) (ltb 0 (room m o (taking (item-no m k))))
+      (eq-eqb _ _ (ap (zone-of m) is ∙ lies))
+      (lt-ltb _ _ (subst⁻¹ (λ j. 0 < room m o (taking j)) is some)) in
       let top = dearest m (bids m) (takes m o z) k l good in
       omega (arith, top, ap (price-of m) is, planned .labels .own z h (omega (arith, top)) .worth)
 
@@ -65,7 +66,7 @@ module _ (m : Market) (o : Outcome) (t : Plan) (proper : Proper m) (planned : Pl
         | inr none ↦ omega arith
       ]
 
-  -- Idea: a step to the hub is along a bid that can take, which the zone's taker is worth at least; a line is in the labels.
+  -- Idea: a step to the hub is along a bid that can take, and the zone's taker is worth no less; lines are in the labels.
   pub calm-free : (s : Step) → Free m o s → Calm m t s
   calm-free (Forward (Buy k)) free apart =
       let h = proper .buys k (free .among) in

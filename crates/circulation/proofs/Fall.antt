@@ -1,28 +1,26 @@
--- Labels never rise from one search to the next. Assumes nothing but what it names of the tables.
+-- Labels never rise from one search to the next. Assumes nothing.
 use mathlib.Core.Bool.{true, _&&_}
 use mathlib.Core.Logic.{_≢_, _⊎_, inl, inr}
 use mathlib.Core.List.{List, [], _∷_}
-use mathlib.Core.Path.{_≡_, refl, sym, ap, subst, subst⁻¹, _∙_}
+use mathlib.Core.Path.{_≡_, refl, sym, ap, subst, _∙_}
 use Prim.Native.Nat.{ℕ, zero, suc, _+_, _-_, _≤_, _<_}
 use native.Mathlib.Omega.{arith}
 use lib.Dec.{eqb, ltb}
-use lib.ListN.{length}
 use Rattle.std.specs.declared.option.Option.{Option}
 use Rattle.std.specs.declared.option.Option.the-variants.{Some, None}
 use Rattle.std.specs.shelf.Lists.{All}
 use Rattle.std.proofs.shelf.Elements.{all-weaker}
 use Rattle.std.proofs.shelf.Tests.{and-parts, cases-lt, cond-both, eqb-true, ltb-true}
-use Rattle.hour.specs.Market.{Market, Outcome, Proper, at, line}
-use Rattle.network.specs.Network.{Among, hub, capacity, carried}
+use Rattle.hour.specs.Market.{Market, Outcome, Proper, at}
+use Rattle.network.specs.Network.{hub, carried}
 use Rattle.network.specs.Ways.{start, finish, step-cost, step-gain, room, Free, Links, moved, pushed}
 use Rattle.network.specs.declared.arcs.Item.{Item}
 use Rattle.network.specs.declared.arcs.Item.the-variants.{Buy, Sell, Line}
 use Rattle.network.specs.declared.arcs.Step.{Step}
 use Rattle.network.specs.declared.arcs.Step.the-variants.{Forward, Backward}
 use Rattle.network.proofs.Ways.{carries}
-use Rattle.paths.specs.Best.{best}
 use Rattle.paths.specs.Bids.{bids, item-no, taking, zone-of, price-of, takes, taker, dearer, worth-at, own}
-use Rattle.paths.specs.Labels.{Leads, Over, Along}
+use Rattle.paths.specs.Labels.{Leads, Along}
 use Rattle.paths.specs.Plan.{Plan, Planned, pays, closed-way, way-out}
 use Rattle.paths.specs.Promises.{Way-shown, Pays-off}
 use Rattle.circulation.specs.Sweep.{bottleneck, Tally, pushed-full, asked, swept}
@@ -78,13 +76,12 @@ way-begins m t zero v a b c one other = sym (one .0) ∙ other .0
 way-begins m t (suc k) v a b c one other = sym (one .0) ∙ other .0
 
 module _ (m : Market) (o : Outcome) (t : Plan) (proper : Proper m) (planned : Planned m o t) where
-  -- Idea: the way from a zone is worth its label, so none of its steps loses any; and the giver asks for less than that.
+  -- Idea: the way from a zone is worth its label, so no step of it loses any; and the giver asks for less than that.
   pub closed-held :
       (v : ℕ) → 0 < at (t .worth) v → Pays-off m o t v → Way-shown m o t v (at (t .worth) v - 1) →
       All (Held m t) (closed-way m t v)
   closed-held v some off way =
       let ws = way-out m t (at (t .far) v) v in
-      let g = closed-way m t v in
       let ends = way-begins m t (at (t .far) v) v _ v (hub m) (off .links .1) (way .links) in
       let at-v = ap (label m t) ends ∙ label-zone m t v (off .zone) in
       let at-hub = label-hub m t in
@@ -92,8 +89,8 @@ module _ (m : Market) (o : Outcome) (t : Plan) (proper : Proper m) (planned : Pl
       let apart = all-weaker _ (λ s. start m s ≢ hub m) (λ s ne e. ne (e ∙ sym (off .links .0))) ws (off .once .0) in
       let calm = all-weaker (Free m o) (Calm m t) (calm-free m o t proper planned) ws (way .free) in
       let rest =
-          held-way m t v ws (hub m) (way .links) apart calm
-          (omega (arith, way .worth, label-zone m t v (off .zone), at-hub)) in
+      held-way m t v ws (hub m) (way .links) apart calm
+      (omega (arith, way .worth, label-zone m t v (off .zone), at-hub)) in
       (omega (arith, off .gains, way .worth, at-v, at-hub, begins), rest)
 
   calm-asked :
@@ -114,7 +111,8 @@ module _ (m : Market) (o : Outcome) (t : Plan) (proper : Proper m) (planned : Pl
           let asks = ltb-true _ _ (and-parts (ltb 0 (at (t .ask) v)) _ paying .1) in
           let some : 0 < at (t .worth) v = omega (arith, asks) in
           let held = closed-held v some (each v h paying) (shown v h some) in
-          free-pushed m (Calm m t) (bottleneck m (y .outcome) (closed-way m t v)) (closed-way m t v) (y .outcome) before
+          let d = bottleneck m (y .outcome) (closed-way m t v) in
+          free-pushed m (Calm m t) d (closed-way m t v) (y .outcome) before
           (all-weaker (Held m t) (λ s. Calm m t (back s)) (calm-back m t) (closed-way m t v) held)
 
   pub calm-swept :
@@ -160,7 +158,7 @@ module _ (m : Market) (p : Outcome) (t : Plan) (proper : Proper m) (calm : (x : 
       let lies = eqb-true (zone-of m (item-no m k)) z (parts .0) in
       let some = ltb-true 0 (room m p (taking (item-no m k))) (parts .1) in
       let roomy : (i : Item) → item-no m k ≡ i → 0 < room m p (taking i) =
-          λ i is. subst (λ i. 0 < room m p (taking i)) is some in
+      λ i is. subst (λ i. 0 < room m p (taking i)) is some in
       let there : (i : Item) → item-no m k ≡ i → zone-of m i ≡ z = λ i is. sym (ap (zone-of m) is) ∙ lies in
       elim (bid-item m k (chosen .below)) [
         | inl (j, among, is) ↦

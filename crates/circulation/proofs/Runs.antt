@@ -1,18 +1,19 @@
--- Runs: sweep after sweep until no zone pays. Assumes nothing of the tables but what its sections name.
+-- Runs: sweep after sweep until no zone pays. Assumes nothing.
 use mathlib.Core.Bool.{true}
 use mathlib.Core.Path.{_≡_, refl, sym, ap, subst, _∙_}
-use Prim.Native.Nat.{ℕ, zero, suc, _+_, _≤_, _<_}
+use Prim.Native.Nat.{ℕ, zero, suc, _+_, _<_}
 use native.Mathlib.Omega.{arith}
 use Rattle.std.specs.Options.{isSome}
 use Rattle.std.specs.declared.option.Option.{Option}
 use Rattle.std.specs.declared.option.Option.the-variants.{Some, None}
 use Rattle.std.proofs.shelf.Tests.{both-ways}
 use Rattle.hour.specs.Market.{Market, Outcome, Proper, Feasible}
-use Rattle.paths.specs.Plan.{Plan, Planned, first-paying, pays}
-use Rattle.paths.specs.Promises.{Pays-off, One-plan, Some-plan, Lowest-labels, prices-of}
+use Rattle.paths.specs.Plan.{Plan, Planned, first-paying}
+use Rattle.paths.specs.Promises.{One-plan, Some-plan, Lowest-labels}
 use Rattle.circulation.specs.Sweep.{swept}
 use Rattle.circulation.specs.Run.{Runs, Run}
-use Rattle.circulation.specs.Promises.{value, top, Steps-sound, Push-by-push, Run-settles, Same-run, One-run, Ended, Run-ends}
+use Rattle.circulation.specs.Promises.{value, top, Steps-sound, Same-run, Ended}
+use Rattle.circulation.specs.Promises.{Push-by-push, Run-settles, One-run, Run-ends}
 use Rattle.circulation.proofs.Value.{value-top}
 use Rattle.circulation.proofs.Pushed.{sound-none, sound-append}
 use Rattle.circulation.proofs.Swept.{Each-pays, swept-sound, some-pushes}
@@ -53,7 +54,7 @@ pub record Reaches (m : Market) (o p : Outcome) (n : ℕ) (t : Plan) : Type 0 wh
 
 module _ (pays-off : Pays-off-law) where
   -- Idea: each sweep is so many pushes; put them one behind the other.
-  pub runs-reach :
+  runs-reach :
       (m : Market) → Proper m → (k : ℕ) (o p : Outcome) (n : ℕ) (t : Plan) → Feasible m o → Runs m k o n p t →
       Reaches m o p n t
   runs-reach m proper zero o p n t f (planned, none, count, same) =
@@ -70,12 +71,16 @@ module _ (pays-off : Pays-off-law) where
         none-pays = later .none-pays;
       }
 
+  pub run-reaches :
+      (m : Market) (o p : Outcome) (n : ℕ) (t : Plan) → Proper m → Feasible m o → Run m o n p t → Reaches m o p n t
+  run-reaches m o p n t proper f run = runs-reach m proper (run .0) o p n t f (run .1)
+
   pub push-by-push : Push-by-push
-  push-by-push m o p n t proper f run = runs-reach m proper (run .0) o p n t f (run .1) .sound
+  push-by-push m o p n t proper f run = run-reaches m o p n t proper f run .sound
 
   pub run-settles : Lowest-labels → Run-settles
   run-settles lowest-labels m o p n t proper f run =
-      let end = runs-reach m proper (run .0) o p n t f (run .1) in
+      let end = run-reaches m o p n t proper f run in
       lowest-labels m p t proper (end .sound .feasible) (end .planned) (end .none-pays)
 
   end-here :
@@ -149,7 +154,9 @@ module _ (one-plan : One-plan) where
       absurd (one-end m r (subst (λ x. first-paying m x ≡ None) (one-plan m o s r proper planned planned′) none) some)
   runs-one m proper (suc k) zero o p q n j s t (r, planned, some, rest) (planned′, none, count, same) =
       absurd (one-end m r (subst (λ x. first-paying m x ≡ None) (one-plan m o t r proper planned′ planned) none) some)
-  runs-one m proper (suc k) (suc i) o p q n j s t (r, planned, some, (c, count, rest)) (r′, planned′, some′, (c′, count′, rest′)) =
+  runs-one m proper (suc k) (suc i) o p q n j s t (r, planned, some, more) (r′, planned′, some′, more′) =
+      let (c, count, rest) = more in
+      let (c′, count′, rest′) = more′ in
       let same = one-plan m o r′ r proper planned′ planned in
       let pushes = ap (λ x. swept m x (m .zones) o .pushes) same in
       let on = subst (λ x. Runs m i (swept m x (m .zones) o .outcome) c′ q t) same rest′ in

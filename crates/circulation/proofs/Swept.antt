@@ -1,18 +1,18 @@
 -- A sweep: each zone that pays pushes, and the first of them always does. Assumes nothing.
 use mathlib.Core.Bool.{true, false, _&&_}
-use mathlib.Core.Path.{_≡_, refl, sym, ap, subst, _∙_}
+use mathlib.Core.Path.{_≡_, refl, ap, _∙_}
 use mathlib.Core.Logic.{inl, inr}
-use Prim.Native.Nat.{ℕ, zero, suc, _+_, _≤_, _<_}
+use Prim.Native.Nat.{ℕ, zero, suc, _≤_, _<_}
 use native.Mathlib.Omega.{arith}
 use lib.Dec.{ltb}
 use Rattle.std.specs.Options.{isSome}
 use Rattle.std.specs.declared.option.Option.{Option}
 use Rattle.std.specs.declared.option.Option.the-variants.{Some, None}
-use Rattle.std.proofs.shelf.Tests.{both-ways, ltb-true, lt-ltb, and-parts, and-from, and-left, cond-true, cond-false}
+use Rattle.std.proofs.shelf.Tests.{ltb-true, lt-ltb, and-parts, and-from, and-left, cond-true, cond-false}
 use Rattle.std.proofs.shelf.Tests.{cond-both, cases-eq}
 use Rattle.hour.specs.Market.{Market, Outcome, Feasible}
 use Rattle.network.specs.Network.{hub}
-use Rattle.paths.specs.Plan.{Plan, Planned, pays, closed-way, way-out, first-paying}
+use Rattle.paths.specs.Plan.{Plan, pays, closed-way, way-out, first-paying}
 use Rattle.paths.specs.Promises.{Pays-off}
 use Rattle.circulation.specs.Sweep.{bottleneck, Tally, pushed-full, asked, swept}
 use Rattle.circulation.specs.Run.{Pays}
@@ -26,8 +26,8 @@ abbrev pub Each-pays : Market → Outcome → Plan → Type 0
 Each-pays m o t = (v : ℕ) → v < m .zones → pays t v ≡ true → Pays-off m o t v
 
 -- something fits along the closed way of a zone that pays, in whatever outcome
-abbrev fits-now : Market → Plan → ℕ → Outcome → Type 0
-fits-now m t v q = (pays t v && ltb 0 (bottleneck m q (closed-way m t v))) ≡ true
+abbrev Fits-now : Market → Plan → ℕ → Outcome → Type 0
+Fits-now m t v q = (pays t v && ltb 0 (bottleneck m q (closed-way m t v))) ≡ true
 
 pub pays-now :
     (m : Market) (o q : Outcome) (t : Plan) (v : ℕ) → Pays-off m o t v →
@@ -43,7 +43,7 @@ pays-now m o q t v off some =
       gains = off .gains;
     }
 
--- Idea: a zone that pays now pushes along a way that is closed and gains, whatever was pushed before; others do nothing.
+-- Idea: a zone that pays pushes along a way that is closed and gains, whatever was pushed before; others do nothing.
 pub asked-sound :
     (m : Market) (o : Outcome) (t : Plan) → Each-pays m o t → (v : ℕ) → v < m .zones → (y : Tally) →
     Steps-sound m o (y .outcome) (y .pushes) → Steps-sound m o (asked m t v y .outcome) (asked m t v y .pushes)
@@ -53,7 +53,7 @@ asked-sound m o t each v h y sound =
     (λ z. Steps-sound m o (z .outcome) (z .pushes)) more (λ off. sound)
   where
     more :
-        fits-now m t v (y .outcome) →
+        Fits-now m t v (y .outcome) →
         Steps-sound m o (pushed-full m (closed-way m t v) y .outcome) (pushed-full m (closed-way m t v) y .pushes)
     more holds =
         let parts = and-parts (pays t v) (ltb 0 (bottleneck m (y .outcome) (closed-way m t v))) holds in
@@ -76,7 +76,7 @@ swept-none m o t zero none = refl
 swept-none m o t (suc n) none =
     let before = swept-none m o t n (λ v h. none v (omega arith)) in
     let here =
-        and-left (pays t n) (ltb 0 (bottleneck m (swept m t n o .outcome) (closed-way m t n))) (none n (omega arith)) in
+    and-left (pays t n) (ltb 0 (bottleneck m (swept m t n o .outcome) (closed-way m t n))) (none n (omega arith)) in
     cond-false _ _ _ here ∙ before
 
 pub pushes-grow :
@@ -103,7 +103,8 @@ asked-first m o t v paying off y e =
     let start : Tally = record { outcome = o; pushes = 0 } in
     let some = bottleneck-some m o _ (way-out m t _ v) (off .free) in
     let holds = and-from (pays t v) (ltb 0 (bottleneck m o (closed-way m t v))) paying (lt-ltb 0 _ some) in
-    ap (λ z. asked m t v z .pushes) e ∙ ap (λ z. z .pushes) (cond-true _ (pushed-full m (closed-way m t v) start) start holds)
+    ap (λ z. asked m t v z .pushes) e
+    ∙ ap (λ z. z .pushes) (cond-true _ (pushed-full m (closed-way m t v) start) start holds)
 
 -- Idea: the zones before the first that pays change nothing, so its way is still free; later zones only add pushes.
 pub first-pushes :
@@ -112,7 +113,7 @@ pub first-pushes :
 first-pushes m o t v each e =
     let found = first-pays m t v e in
     let one = asked-first m o t v (found .holds) (each v (found .below) (found .holds)) (swept m t v o)
-        (swept-none m o t v (found .before)) in
+    (swept-none m o t v (found .before)) in
     omega (arith, one, pushes-grow m o t (suc v) (m .zones) (found .below))
 
 pub some-pushes :

@@ -1,15 +1,13 @@
 -- Who takes in a zone: its taker can take, and nobody who can is worth more. Assumes nothing.
-use mathlib.Core.Bool.{Bool, true, false, cond}
+use mathlib.Core.Bool.{Bool, true}
 use mathlib.Core.Logic.{_⊎_, inl, inr}
-use mathlib.Core.Path.{_≡_, refl, sym, ap, subst, _∙_}
-use Prim.Native.Nat.{ℕ, zero, suc, _+_, _-_, _≤_, _<_}
+use mathlib.Core.Path.{_≡_, sym, subst}
+use Prim.Native.Nat.{ℕ, zero, suc, _-_, _≤_, _<_}
 use native.Mathlib.Omega.{arith}
-use lib.Dec.{ltb}
 use lib.ListN.{length}
-use Rattle.std.specs.Options.{isSome}
 use Rattle.std.specs.declared.option.Option.{Option}
 use Rattle.std.specs.declared.option.Option.the-variants.{Some, None}
-use Rattle.std.proofs.shelf.Tests.{both-ways, cases-eq, cases-lt, cond-both, cond-true, cond-false, ltb-true, ltb-false}
+use Rattle.std.proofs.shelf.Tests.{cases-eq, cases-lt, cond-both, cond-true, ltb-true, ltb-false}
 use Rattle.hour.specs.Market.{Market}
 use Rattle.network.specs.declared.arcs.Item.the-variants.{Buy, Sell}
 use Rattle.network.proofs.Items.{nth-buy, nth-sell}

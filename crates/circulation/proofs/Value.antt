@@ -4,7 +4,7 @@ use Prim.Native.Nat.{ℕ, _+_, _*_, _≤_, _<_}
 use native.Mathlib.Nat.{mul-le-mul-left}
 use native.Mathlib.Omega.{arith}
 use Rattle.hour.specs.Market.{Market, Outcome, Feasible}
-use Rattle.network.specs.Network.{capacity, cost, gain, carried, gained, spent, weighed, sum}
+use Rattle.network.specs.Network.{capacity, cost, gain, gained, spent, weighed, sum}
 use Rattle.network.specs.Ways.{way-cost, way-gain}
 use Rattle.network.specs.Promises.{Push-done}
 use Rattle.network.specs.declared.arcs.Item.{Item}
