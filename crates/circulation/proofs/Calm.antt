@@ -66,7 +66,7 @@ module _ (m : Market) (o : Outcome) (t : Plan) (proper : Proper m) (planned : Pl
         | inr none ↦ omega arith
       ]
 
-  -- Idea: a step to the hub is along a bid that can take, and the zone's taker is worth no less; lines are in the labels.
+  -- Idea: a step to the hub is along a bid that can take, and the taker is worth no less; lines are in the labels.
   pub calm-free : (s : Step) → Free m o s → Calm m t s
   calm-free (Forward (Buy k)) free apart =
       let h = proper .buys k (free .among) in

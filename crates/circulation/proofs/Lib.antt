@@ -1,8 +1,10 @@
 pub mod Bottleneck
 pub mod Value
+pub mod Few
 pub mod Pushed
 pub mod Paying
 pub mod Swept
+pub mod Sweeping
 pub mod Runs
 pub mod Always
 pub mod Takers
