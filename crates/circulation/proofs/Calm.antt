@@ -1,14 +1,14 @@
 -- Labels as what nodes are worth: no free step out of a zone raises one, along a best way none falls. Assumes nothing.
-use mathlib.Core.Bool.{true, cond}
+use mathlib.Core.Bool.{cond}
 use mathlib.Core.Logic.{_≢_, inl, inr}
 use mathlib.Core.List.{List, [], _∷_}
 use mathlib.Core.Path.{_≡_, refl, ap, subst⁻¹, _∙_}
 use Prim.Native.Nat.{ℕ, _+_, _≤_, _<_}
 use native.Mathlib.Omega.{arith}
-use lib.Dec.{eqb, ltb}
+use lib.Dec.{ltb}
 use lib.ListN.{length}
 use Rattle.std.specs.shelf.Lists.{All}
-use Rattle.std.proofs.shelf.Tests.{lt-ltb, le-ltb, eq-eqb, and-from, cases-lt}
+use Rattle.std.proofs.shelf.Tests.{lt-ltb, le-ltb, cases-lt}
 use Rattle.hour.specs.Market.{Market, Outcome, Proper, at, bid, line}
 use Rattle.network.specs.Network.{hub}
 use Rattle.network.specs.Ways.{start, finish, step-cost, step-gain, room, Free, Links, way-cost, way-gain}
@@ -16,11 +16,10 @@ use Rattle.network.specs.declared.arcs.Item.{Item}
 use Rattle.network.specs.declared.arcs.Item.the-variants.{Buy, Sell, Line}
 use Rattle.network.specs.declared.arcs.Step.{Step}
 use Rattle.network.specs.declared.arcs.Step.the-variants.{Forward, Backward}
-use Rattle.network.proofs.Items.{nth-buy, nth-sell}
-use Rattle.paths.specs.Bids.{bids, item-no, taking, zone-of, price-of, takes, own}
+use Rattle.paths.specs.Bids.{bids, item-no, taking, zone-of, price-of, own}
 use Rattle.paths.specs.Labels.{Over}
 use Rattle.paths.specs.Plan.{Plan, Planned}
-use Rattle.circulation.proofs.Takers.{dearest}
+use Rattle.paths.proofs.Bids.{buy-no, sell-no, own-most}
 
 -- a zone's label, and 1 for the hub: one more than what the way from there is worth
 abbrev pub label : Market → Plan → ℕ → ℕ
@@ -52,12 +51,8 @@ module _ (m : Market) (o : Outcome) (t : Plan) (proper : Proper m) (planned : Pl
       (z k : ℕ) (i : Item) → item-no m k ≡ i → z < m .zones → k < bids m → zone-of m i ≡ z →
       0 < room m o (taking i) → price-of m i < at (t .worth) z
   own-label z k i is h l lies some =
-      let good : takes m o z k ≡ true =
-      and-from (eqb (zone-of m (item-no m k)) z) (ltb 0 (room m o (taking (item-no m k))))
-      (eq-eqb _ _ (ap (zone-of m) is ∙ lies))
-      (lt-ltb _ _ (subst⁻¹ (λ j. 0 < room m o (taking j)) is some)) in
-      let top = dearest m (bids m) (takes m o z) k l good in
-      omega (arith, top, ap (price-of m) is, planned .labels .own z h (omega (arith, top)) .worth)
+      let top = own-most m o z k l (ap (zone-of m) is ∙ lies) (subst⁻¹ (λ j. 0 < room m o (taking j)) is some) in
+      omega (arith, ap (price-of m) is, planned .labels .own z h (omega (arith, top)) .worth)
 
   line-label : (l v w : ℕ) → v < m .zones → w < m .zones → Over m o l v w → at (t .worth) w ≤ at (t .worth) v
   line-label l v w h k over =
@@ -71,7 +66,7 @@ module _ (m : Market) (o : Outcome) (t : Plan) (proper : Proper m) (planned : Pl
   calm-free (Forward (Buy k)) free apart =
       let h = proper .buys k (free .among) in
       let z = bid (m .buys) k .zone in
-      let is = nth-buy (length (m .buys)) (length (m .sells)) k (free .among) in
+      let is = buy-no m k (free .among) in
       omega (
         arith,
         own-label z k (Buy k) is h (omega (arith, free .among)) refl (free .room),
@@ -91,7 +86,7 @@ module _ (m : Market) (o : Outcome) (t : Plan) (proper : Proper m) (planned : Pl
       let h = proper .sells k (free .among) in
       let z = bid (m .sells) k .zone in
       let n = length (m .buys) + k in
-      let is = nth-sell (length (m .buys)) (length (m .sells)) n k refl (free .among) in
+      let is = sell-no m k (free .among) in
       omega (
         arith,
         own-label z n (Sell k) is h (omega (arith, free .among)) refl (free .room),

@@ -2,32 +2,29 @@
 use mathlib.Core.Bool.{true, _&&_}
 use mathlib.Core.Logic.{_≢_, _⊎_, inl, inr}
 use mathlib.Core.List.{List, [], _∷_}
-use mathlib.Core.Path.{_≡_, refl, sym, ap, subst, _∙_}
+use mathlib.Core.Path.{_≡_, sym, ap, subst, _∙_}
 use Prim.Native.Nat.{ℕ, zero, suc, _+_, _-_, _≤_, _<_}
 use native.Mathlib.Omega.{arith}
-use lib.Dec.{eqb, ltb}
-use Rattle.std.specs.declared.option.Option.{Option}
-use Rattle.std.specs.declared.option.Option.the-variants.{Some, None}
+use lib.Dec.{ltb}
 use Rattle.std.specs.shelf.Lists.{All}
 use Rattle.std.proofs.shelf.Elements.{all-weaker}
-use Rattle.std.proofs.shelf.Tests.{and-parts, cases-lt, cond-both, eqb-true, ltb-true}
+use Rattle.std.proofs.shelf.Tests.{and-parts, cases-lt, cond-both, ltb-true}
 use Rattle.hour.specs.Market.{Market, Outcome, Proper, at}
 use Rattle.network.specs.Network.{hub, carried}
 use Rattle.network.specs.Ways.{start, finish, step-cost, step-gain, room, Free, Links, moved, pushed}
-use Rattle.network.specs.declared.arcs.Item.{Item}
-use Rattle.network.specs.declared.arcs.Item.the-variants.{Buy, Sell, Line}
+use Rattle.network.specs.declared.arcs.Item.the-variants.{Line}
 use Rattle.network.specs.declared.arcs.Step.{Step}
 use Rattle.network.specs.declared.arcs.Step.the-variants.{Forward, Backward}
 use Rattle.network.proofs.Ways.{carries}
-use Rattle.paths.specs.Bids.{bids, item-no, taking, zone-of, price-of, takes, taker, dearer, worth-at, own}
+use Rattle.paths.specs.Bids.{item-no, taking, taker, own}
 use Rattle.paths.specs.Labels.{Leads, Along}
 use Rattle.paths.specs.Plan.{Plan, Planned, pays, closed-way, way-out}
 use Rattle.paths.specs.Promises.{Way-shown, Pays-off}
+use Rattle.paths.proofs.Bids.{bid-numbered, taking-goes, worth-some, taker-found}
 use Rattle.circulation.specs.Sweep.{bottleneck, Tally, pushed-full, asked, swept}
 use Rattle.circulation.specs.Promises.{Labels-fall}
 use Rattle.circulation.proofs.Swept.{Each-pays}
 use Rattle.circulation.proofs.Runs.{Pays-off-law}
-use Rattle.circulation.proofs.Takers.{Chosen, All-chosen, best-chosen, bid-item}
 use Rattle.circulation.proofs.Calm.{label, label-zone, label-hub, Calm, Held, back, calm-back, calm-free, held-way}
 
 -- Idea: a push takes room along its own step and makes room only the way back.
@@ -151,32 +148,21 @@ module _ (m : Market) (p : Outcome) (t : Plan) (proper : Proper m) (calm : (x : 
         label-zone m t w k,
       )
 
-  bid-bound :
-      (z k : ℕ) → z < m .zones → Chosen (bids m) (takes m p z) k → price-of m (item-no m k) < at (t .worth) z
-  bid-bound z k h chosen =
-      let parts = and-parts (eqb (zone-of m (item-no m k)) z) _ (chosen .good) in
-      let lies = eqb-true (zone-of m (item-no m k)) z (parts .0) in
-      let some = ltb-true 0 (room m p (taking (item-no m k))) (parts .1) in
-      let roomy : (i : Item) → item-no m k ≡ i → 0 < room m p (taking i) =
-      λ i is. subst (λ i. 0 < room m p (taking i)) is some in
-      let there : (i : Item) → item-no m k ≡ i → zone-of m i ≡ z = λ i is. sym (ap (zone-of m) is) ∙ lies in
-      elim (bid-item m k (chosen .below)) [
-        | inl (j, among, is) ↦
-            let free : Free m p (Forward (Buy j)) = record { among = among; room = roomy (Buy j) is } in
-            omega (arith, hub-bound (Forward (Buy j)) z h free (there (Buy j) is) refl, ap (price-of m) is)
-        | inr (j, among, is) ↦
-            let free : Free m p (Backward (Sell j)) = record { among = among; room = roomy (Sell j) is } in
-            omega (arith, hub-bound (Backward (Sell j)) z h free (there (Sell j) is) refl, ap (price-of m) is)
+  -- the zone's taker is a bid with a free step to the hub
+  own-bound : (z : ℕ) → z < m .zones → own m p z ≤ at (t .worth) z
+  own-bound z h =
+      elim (cases-lt 0 (own m p z)) [
+        | inl some ↦
+            let (k, taken) = worth-some m p z (taker m p z) some in
+            let found = taker-found m p z k taken in
+            let goes = taking-goes m (item-no m k) (bid-numbered m k (found .below) .bid) in
+            let step = hub-bound (taking (item-no m k)) z h (found .free) (goes .from ∙ found .zone) (goes .to) in
+            omega (arith, found .worth, goes .gains, goes .costs)
+        | inr none ↦ omega arith
       ]
 
-  own-bound :
-      (z : ℕ) → z < m .zones → (r : Option ℕ) → All-chosen (bids m) (takes m p z) r → worth-at m r ≤ at (t .worth) z
-  own-bound z h None chosen = omega arith
-  own-bound z h (Some k) chosen = bid-bound z k h chosen
-
   pub along-bound : (k v c : ℕ) → v < m .zones → Along m p k v c → c ≤ at (t .worth) v
-  along-bound zero v c h own =
-      omega (arith, own, own-bound v h (taker m p v) (best-chosen (bids m) (takes m p v) (dearer m)))
+  along-bound zero v c h own = omega (arith, own, own-bound v h)
   along-bound (suc k) v c h (l, w, inl leads, rest) =
       let below : w < m .zones = omega (arith, proper .to l (leads .free .among), leads .to) in
       omega (arith, line-bound (Forward (Line l)) v w h below leads, along-bound k w c below rest)

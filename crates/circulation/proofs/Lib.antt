@@ -7,6 +7,5 @@ pub mod Swept
 pub mod Sweeping
 pub mod Runs
 pub mod Always
-pub mod Takers
 pub mod Calm
 pub mod Fall
