@@ -2,24 +2,20 @@
 use mathlib.Core.Bool.{cond}
 use mathlib.Core.Logic.{_≢_, inl, inr}
 use mathlib.Core.List.{List, [], _∷_}
-use mathlib.Core.Path.{_≡_, refl, ap, subst⁻¹, _∙_}
+use mathlib.Core.Path.{_≡_, ap}
 use Prim.Native.Nat.{ℕ, _+_, _≤_, _<_}
 use native.Mathlib.Omega.{arith}
 use lib.Dec.{ltb}
-use lib.ListN.{length}
 use Rattle.std.specs.shelf.Lists.{All}
 use Rattle.std.proofs.shelf.Tests.{lt-ltb, le-ltb, cases-lt}
-use Rattle.hour.specs.Market.{Market, Outcome, Proper, at, bid, line}
+use Rattle.hour.specs.Market.{Market, Outcome, Proper, at}
 use Rattle.network.specs.Network.{hub}
-use Rattle.network.specs.Ways.{start, finish, step-cost, step-gain, room, Free, Links, way-cost, way-gain}
-use Rattle.network.specs.declared.arcs.Item.{Item}
-use Rattle.network.specs.declared.arcs.Item.the-variants.{Buy, Sell, Line}
+use Rattle.network.specs.Ways.{start, finish, step-cost, step-gain, Free, Links, way-cost, way-gain}
 use Rattle.network.specs.declared.arcs.Step.{Step}
 use Rattle.network.specs.declared.arcs.Step.the-variants.{Forward, Backward}
-use Rattle.paths.specs.Bids.{bids, item-no, taking, zone-of, price-of, own}
-use Rattle.paths.specs.Labels.{Over}
+use Rattle.paths.specs.Bids.{own}
 use Rattle.paths.specs.Plan.{Plan, Planned}
-use Rattle.paths.proofs.Bids.{buy-no, sell-no, own-most}
+use Rattle.paths.proofs.Steps.{free-kinds}
 
 -- a zone's label, and 1 for the hub: one more than what the way from there is worth
 abbrev pub label : Market → Plan → ℕ → ℕ
@@ -46,60 +42,38 @@ pub calm-back : (m : Market) (t : Plan) (s : Step) → Held m t s → Calm m t (
 calm-back m t (Forward i) held apart = held
 calm-back m t (Backward i) held apart = held
 
-module _ (m : Market) (o : Outcome) (t : Plan) (proper : Proper m) (planned : Planned m o t) where
-  own-label :
-      (z k : ℕ) (i : Item) → item-no m k ≡ i → z < m .zones → k < bids m → zone-of m i ≡ z →
-      0 < room m o (taking i) → price-of m i < at (t .worth) z
-  own-label z k i is h l lies some =
-      let top = own-most m o z k l (ap (zone-of m) is ∙ lies) (subst⁻¹ (λ j. 0 < room m o (taking j)) is some) in
-      omega (arith, ap (price-of m) is, planned .labels .own z h (omega (arith, top)) .worth)
-
-  line-label : (l v w : ℕ) → v < m .zones → w < m .zones → Over m o l v w → at (t .worth) w ≤ at (t .worth) v
-  line-label l v w h k over =
-      elim (cases-lt 0 (at (t .worth) w)) [
-        | inl some ↦ planned .labels .over l v w h k over some .worth
-        | inr none ↦ omega arith
-      ]
-
-  -- Idea: a step to the hub is along a bid that can take, and the taker is worth no less; lines are in the labels.
-  pub calm-free : (s : Step) → Free m o s → Calm m t s
-  calm-free (Forward (Buy k)) free apart =
-      let h = proper .buys k (free .among) in
-      let z = bid (m .buys) k .zone in
-      let is = buy-no m k (free .among) in
-      omega (
-        arith,
-        own-label z k (Buy k) is h (omega (arith, free .among)) refl (free .room),
-        label-zone m t z h,
-        label-hub m t,
-      )
-  calm-free (Forward (Sell k)) free apart = absurd (apart refl)
-  calm-free (Forward (Line l)) free apart =
-      let v = line (m .lines) l .from in
-      let w = line (m .lines) l .to in
-      let h = proper .from l (free .among) in
-      let k = proper .to l (free .among) in
-      let lead : Over m o l v w = inl (record { free = free; from = refl; to = refl }) in
-      omega (arith, line-label l v w h k lead, label-zone m t v h, label-zone m t w k)
-  calm-free (Backward (Buy k)) free apart = absurd (apart refl)
-  calm-free (Backward (Sell k)) free apart =
-      let h = proper .sells k (free .among) in
-      let z = bid (m .sells) k .zone in
-      let n = length (m .buys) + k in
-      let is = sell-no m k (free .among) in
-      omega (
-        arith,
-        own-label z n (Sell k) is h (omega (arith, free .among)) refl (free .room),
-        label-zone m t z h,
-        label-hub m t,
-      )
-  calm-free (Backward (Line l)) free apart =
-      let v = line (m .lines) l .to in
-      let w = line (m .lines) l .from in
-      let h = proper .to l (free .among) in
-      let k = proper .from l (free .among) in
-      let lead : Over m o l v w = inr (record { free = free; from = refl; to = refl }) in
-      omega (arith, line-label l v w h k lead, label-zone m t v h, label-zone m t w k)
+-- Idea: a step to the hub gains no more than the zone's taker is worth; a line is in the labels.
+pub calm-free :
+    (m : Market) (o : Outcome) (t : Plan) → Proper m → Planned m o t → (s : Step) → Free m o s → Calm m t s
+calm-free m o t proper planned s free apart =
+    elim (free-kinds m o proper s free) [
+      | inl to ↦
+          let own = planned .labels .own (start m s) (to .from) (omega (arith, to .most)) in
+          omega (
+            arith,
+            to .most,
+            to .costs,
+            own .worth,
+            label-zone m t (start m s) (to .from),
+            ap (label m t) (to .to),
+            label-hub m t,
+          )
+      | inr (inl from) ↦ absurd (apart (from .from))
+      | inr (inr across) ↦
+          elim (cases-lt 0 (at (t .worth) (finish m s))) [
+            | inl some ↦
+                let over =
+                planned .labels .over (across .number) _ _ (across .from) (across .to) (across .over) some in
+                omega (
+                  arith,
+                  over .worth,
+                  across .gains,
+                  label-zone m t (start m s) (across .from),
+                  label-zone m t (finish m s) (across .to),
+                )
+            | inr none ↦ omega (arith, across .gains, label-zone m t (finish m s) (across .to))
+          ]
+    ]
 
 module _ (m : Market) (t : Plan) where
   -- Idea: add up the steps; between the ends the labels cancel.
