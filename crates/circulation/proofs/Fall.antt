@@ -1,5 +1,5 @@
 -- Labels never rise from one search to the next. Assumes nothing.
-use mathlib.Core.Bool.{true, _&&_}
+use mathlib.Core.Bool.{true}
 use mathlib.Core.Logic.{_≢_, _⊎_, inl, inr}
 use mathlib.Core.List.{List, [], _∷_}
 use mathlib.Core.Path.{_≡_, sym, ap, subst, _∙_}
@@ -8,7 +8,7 @@ use native.Mathlib.Omega.{arith}
 use lib.Dec.{ltb}
 use Rattle.std.specs.shelf.Lists.{All}
 use Rattle.std.proofs.shelf.Elements.{all-weaker}
-use Rattle.std.proofs.shelf.Tests.{and-parts, cases-lt, cond-both, ltb-true}
+use Rattle.std.proofs.shelf.Tests.{and-parts, cases-lt, ltb-true}
 use Rattle.hour.specs.Market.{Market, Outcome, Proper, at}
 use Rattle.network.specs.Network.{hub, carried}
 use Rattle.network.specs.Ways.{start, finish, step-cost, step-gain, room, Free, Links, moved, pushed}
@@ -21,8 +21,9 @@ use Rattle.paths.specs.Labels.{Leads, Along}
 use Rattle.paths.specs.Plan.{Plan, Planned, pays, closed-way, way-out}
 use Rattle.paths.specs.Promises.{Way-shown, Pays-off}
 use Rattle.paths.proofs.Bids.{bid-numbered, taking-goes, worth-some, taker-found}
-use Rattle.circulation.specs.Sweep.{bottleneck, Tally, pushed-full, asked, swept}
+use Rattle.circulation.specs.Sweep.{Tally, asked, swept}
 use Rattle.circulation.specs.Promises.{Labels-fall}
+use Rattle.circulation.proofs.Sweeping.{fitting, asked-keeps}
 use Rattle.circulation.proofs.Swept.{Each-pays}
 use Rattle.circulation.proofs.Runs.{Pays-off-law}
 use Rattle.circulation.proofs.Calm.{label, label-zone, label-hub, Calm, Held, back, calm-back, calm-free, held-way}
@@ -96,20 +97,16 @@ module _ (m : Market) (o : Outcome) (t : Plan) (proper : Proper m) (planned : Pl
       (v : ℕ) → v < m .zones → (y : Tally) → ((x : Step) → Free m (y .outcome) x → Calm m t x) →
       (x : Step) → Free m (asked m t v y .outcome) x → Calm m t x
   calm-asked each shown v h y before =
-      cond-both (pays t v && ltb 0 (bottleneck m (y .outcome) (closed-way m t v)))
-      (pushed-full m (closed-way m t v) y) y
-      (λ z. (x : Step) → Free m (z .outcome) x → Calm m t x) more (λ off. before)
+      asked-keeps m t v y (λ z. (x : Step) → Free m (z .outcome) x → Calm m t x) before (λ paid fits. after paid)
     where
-      more :
-          (pays t v && ltb 0 (bottleneck m (y .outcome) (closed-way m t v))) ≡ true →
-          (x : Step) → Free m (pushed-full m (closed-way m t v) y .outcome) x → Calm m t x
-      more holds =
-          let paying = and-parts (pays t v) _ holds .0 in
-          let asks = ltb-true _ _ (and-parts (ltb 0 (at (t .ask) v)) _ paying .1) in
+      after :
+          pays t v ≡ true → (x : Step) → Free m (pushed (y .outcome) (closed-way m t v) (fitting m t v y)) x →
+          Calm m t x
+      after paid =
+          let asks = ltb-true _ _ (and-parts (ltb 0 (at (t .ask) v)) _ paid .1) in
           let some : 0 < at (t .worth) v = omega (arith, asks) in
-          let held = closed-held v some (each v h paying) (shown v h some) in
-          let d = bottleneck m (y .outcome) (closed-way m t v) in
-          free-pushed m (Calm m t) d (closed-way m t v) (y .outcome) before
+          let held = closed-held v some (each v h paid) (shown v h some) in
+          free-pushed m (Calm m t) (fitting m t v y) (closed-way m t v) (y .outcome) before
           (all-weaker (Held m t) (λ s. Calm m t (back s)) (calm-back m t) (closed-way m t v) held)
 
   pub calm-swept :

@@ -3,8 +3,8 @@ pub mod Value
 pub mod Few
 pub mod Pushed
 pub mod Paying
-pub mod Swept
 pub mod Sweeping
+pub mod Swept
 pub mod Runs
 pub mod Always
 pub mod Calm

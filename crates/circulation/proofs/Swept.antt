@@ -1,33 +1,28 @@
 -- A sweep: each zone that pays pushes, and the first of them always does. Assumes nothing.
-use mathlib.Core.Bool.{true, false, _&&_}
+use mathlib.Core.Bool.{true, false}
 use mathlib.Core.Path.{_≡_, refl, ap, _∙_}
 use mathlib.Core.Logic.{inl, inr}
 use Prim.Native.Nat.{ℕ, zero, suc, _≤_, _<_}
 use native.Mathlib.Omega.{arith}
-use lib.Dec.{ltb}
 use Rattle.std.specs.Options.{isSome}
 use Rattle.std.specs.declared.option.Option.{Option}
 use Rattle.std.specs.declared.option.Option.the-variants.{Some, None}
-use Rattle.std.proofs.shelf.Tests.{ltb-true, lt-ltb, and-parts, and-from, and-left, cond-true, cond-false}
-use Rattle.std.proofs.shelf.Tests.{cond-both, cases-eq}
+use Rattle.std.proofs.shelf.Tests.{cases-eq}
 use Rattle.hour.specs.Market.{Market, Outcome, Feasible}
 use Rattle.network.specs.Network.{hub}
 use Rattle.paths.specs.Plan.{Plan, pays, closed-way, way-out, first-paying}
 use Rattle.paths.specs.Promises.{Pays-off}
-use Rattle.circulation.specs.Sweep.{bottleneck, Tally, pushed-full, asked, swept}
+use Rattle.circulation.specs.Sweep.{bottleneck, Tally, asked, swept}
 use Rattle.circulation.specs.Run.{Pays}
 use Rattle.circulation.specs.Promises.{Steps-sound}
 use Rattle.circulation.proofs.Bottleneck.{bottleneck-fits, bottleneck-some, free-among}
 use Rattle.circulation.proofs.Pushed.{sound-none, sound-more}
+use Rattle.circulation.proofs.Sweeping.{fitting, asked-unpaid, asked-pushes, asked-keeps}
 use Rattle.circulation.proofs.Paying.{none-pays, first-pays, some-pays}
 
 -- what the tables say of a zone that pays
 abbrev pub Each-pays : Market → Outcome → Plan → Type 0
 Each-pays m o t = (v : ℕ) → v < m .zones → pays t v ≡ true → Pays-off m o t v
-
--- something fits along the closed way of a zone that pays, in whatever outcome
-abbrev Fits-now : Market → Plan → ℕ → Outcome → Type 0
-Fits-now m t v q = (pays t v && ltb 0 (bottleneck m q (closed-way m t v))) ≡ true
 
 pub pays-now :
     (m : Market) (o q : Outcome) (t : Plan) (v : ℕ) → Pays-off m o t v →
@@ -48,18 +43,9 @@ pub asked-sound :
     (m : Market) (o : Outcome) (t : Plan) → Each-pays m o t → (v : ℕ) → v < m .zones → (y : Tally) →
     Steps-sound m o (y .outcome) (y .pushes) → Steps-sound m o (asked m t v y .outcome) (asked m t v y .pushes)
 asked-sound m o t each v h y sound =
-    cond-both (pays t v && ltb 0 (bottleneck m (y .outcome) (closed-way m t v)))
-    (pushed-full m (closed-way m t v) y) y
-    (λ z. Steps-sound m o (z .outcome) (z .pushes)) more (λ off. sound)
-  where
-    more :
-        Fits-now m t v (y .outcome) →
-        Steps-sound m o (pushed-full m (closed-way m t v) y .outcome) (pushed-full m (closed-way m t v) y .pushes)
-    more holds =
-        let parts = and-parts (pays t v) (ltb 0 (bottleneck m (y .outcome) (closed-way m t v))) holds in
-        let some = ltb-true 0 (bottleneck m (y .outcome) (closed-way m t v)) (parts .1) in
-        sound-more m o (y .outcome) (y .pushes) (closed-way m t v) (bottleneck m (y .outcome) (closed-way m t v)) sound
-        (pays-now m o (y .outcome) t v (each v h (parts .0)) some)
+    asked-keeps m t v y (λ z. Steps-sound m o (z .outcome) (z .pushes)) sound
+    (λ paid some. sound-more m o (y .outcome) (y .pushes) (closed-way m t v) (fitting m t v y) sound
+    (pays-now m o (y .outcome) t v (each v h paid) some))
 
 pub swept-sound :
     (m : Market) (o : Outcome) (t : Plan) → Each-pays m o t → Feasible m o → (n : ℕ) → n ≤ m .zones →
@@ -75,9 +61,7 @@ pub swept-none :
 swept-none m o t zero none = refl
 swept-none m o t (suc n) none =
     let before = swept-none m o t n (λ v h. none v (omega arith)) in
-    let here =
-    and-left (pays t n) (ltb 0 (bottleneck m (swept m t n o .outcome) (closed-way m t n))) (none n (omega arith)) in
-    cond-false _ _ _ here ∙ before
+    asked-unpaid m t n (swept m t n o) (none n (omega arith)) ∙ before
 
 pub pushes-grow :
     (m : Market) (o : Outcome) (t : Plan) (k n : ℕ) → k ≤ n → swept m t k o .pushes ≤ swept m t n o .pushes
@@ -91,20 +75,16 @@ pushes-grow m o t k (suc n) h =
     ]
   where
     grows : (y : Tally) → y .pushes ≤ asked m t n y .pushes
-    grows y =
-        cond-both (pays t n && ltb 0 (bottleneck m (y .outcome) (closed-way m t n)))
-        (pushed-full m (closed-way m t n) y) y (λ z. y .pushes ≤ z .pushes) (λ on. omega arith) (λ off. omega arith)
+    grows y = asked-keeps m t n y (λ z. y .pushes ≤ z .pushes) (omega arith) (λ paid some. omega arith)
 
 -- a zone whose way is free, asked of the outcome that the tables are of, pushes
 pub asked-first :
     (m : Market) (o : Outcome) (t : Plan) (v : ℕ) → pays t v ≡ true → Pays-off m o t v → (y : Tally) →
     y ≡ record { outcome = o; pushes = 0 } → asked m t v y .pushes ≡ 1
-asked-first m o t v paying off y e =
+asked-first m o t v paid off y e =
     let start : Tally = record { outcome = o; pushes = 0 } in
     let some = bottleneck-some m o _ (way-out m t _ v) (off .free) in
-    let holds = and-from (pays t v) (ltb 0 (bottleneck m o (closed-way m t v))) paying (lt-ltb 0 _ some) in
-    ap (λ z. asked m t v z .pushes) e
-    ∙ ap (λ z. z .pushes) (cond-true _ (pushed-full m (closed-way m t v) start) start holds)
+    ap (λ z. asked m t v z .pushes) e ∙ ap (λ z. z .pushes) (asked-pushes m t v start paid some)
 
 -- Idea: the zones before the first that pays change nothing, so its way is still free; later zones only add pushes.
 pub first-pushes :
