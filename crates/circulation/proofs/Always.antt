@@ -12,7 +12,7 @@ use Rattle.hour.specs.Market.{Market, Outcome, Feasible, at, bid, line}
 use Rattle.hour.proofs.Total.{total-same, total-none}
 use Rattle.paths.specs.Promises.{Some-plan, Lowest-labels, prices-of}
 use Rattle.circulation.specs.Promises.{Always}
-use Rattle.circulation.proofs.Runs.{Pays-off-law, run-reaches, run-ends}
+use Rattle.circulation.proofs.Runs.{run-reaches, run-ends}
 
 abbrev pub nothing : Outcome
 nothing = record { bought = []; sold = []; flow = [] }
@@ -39,12 +39,12 @@ nothing-feasible m =
       );
     }
 
-pub always : Pays-off-law → Some-plan → Lowest-labels → Always
-always pays-off some-plan lowest-labels m proper =
+pub always : Some-plan → Lowest-labels → Always
+always some-plan lowest-labels m proper =
     let start = nothing-feasible m in
-    let ended = run-ends pays-off some-plan m nothing proper start in
+    let ended = run-ends some-plan m nothing proper start in
     let t = ended .tables in
-    let end = run-reaches pays-off m nothing (ended .end) (ended .count) t proper start (ended .run) in
+    let end = run-reaches m nothing (ended .end) (ended .count) t proper start (ended .run) in
     let lowest = lowest-labels m (ended .end) t proper (end .sound .feasible) (end .planned) (end .none-pays) in
     record {
       outcome = ended .end;

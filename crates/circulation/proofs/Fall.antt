@@ -19,13 +19,12 @@ use Rattle.network.proofs.Ways.{carries}
 use Rattle.paths.specs.Bids.{item-no, taking, taker, own}
 use Rattle.paths.specs.Labels.{Leads, Along}
 use Rattle.paths.specs.Plan.{Plan, Planned, pays, closed-way, way-out}
-use Rattle.paths.specs.Promises.{Way-shown, Pays-off}
+use Rattle.paths.specs.Promises.{Pays-off}
+use Rattle.paths.proofs.WaysOut.{way-shown, pays-off}
 use Rattle.paths.proofs.Bids.{bid-numbered, taking-goes, worth-some, taker-found}
 use Rattle.circulation.specs.Sweep.{Tally, asked, swept}
 use Rattle.circulation.specs.Promises.{Labels-fall}
 use Rattle.circulation.proofs.Sweeping.{fitting, asked-keeps}
-use Rattle.circulation.proofs.Swept.{Each-pays}
-use Rattle.circulation.proofs.Runs.{Pays-off-law}
 use Rattle.circulation.proofs.Calm.{label, label-zone, label-hub, Calm, Held, back, calm-back, calm-free, held-way}
 
 -- Idea: a push takes room along its own step and makes room only the way back.
@@ -62,12 +61,6 @@ free-pushed m P d (s ∷ ss) o before all = free-pushed m P d ss (moved o s d) o
           | inr e ↦ subst P (sym e) (all .0)
         ]
 
--- what the tables say of a zone that has a way
-abbrev pub Way-shown-law : Type 0
-Way-shown-law =
-    (m : Market) (o : Outcome) (t : Plan) → Proper m → Planned m o t → (v : ℕ) → v < m .zones →
-    0 < at (t .worth) v → Way-shown m o t v (at (t .worth) v - 1)
-
 way-begins :
     (m : Market) (t : Plan) (k v a b c : ℕ) → Links m a (way-out m t k v) c → Links m b (way-out m t k v) c → a ≡ b
 way-begins m t zero v a b c one other = sym (one .0) ∙ other .0
@@ -76,9 +69,9 @@ way-begins m t (suc k) v a b c one other = sym (one .0) ∙ other .0
 module _ (m : Market) (o : Outcome) (t : Plan) (proper : Proper m) (planned : Planned m o t) where
   -- Idea: the way from a zone is worth its label, so no step of it loses any; and the giver asks for less than that.
   pub closed-held :
-      (v : ℕ) → 0 < at (t .worth) v → Pays-off m o t v → Way-shown m o t v (at (t .worth) v - 1) →
-      All (Held m t) (closed-way m t v)
-  closed-held v some off way =
+      (v : ℕ) → 0 < at (t .worth) v → Pays-off m o t v → All (Held m t) (closed-way m t v)
+  closed-held v some off =
+      let way = way-shown m o t proper planned v (off .zone) some in
       let ws = way-out m t (at (t .far) v) v in
       let ends = way-begins m t (at (t .far) v) v _ v (hub m) (off .links .1) (way .links) in
       let at-v = ap (label m t) ends ∙ label-zone m t v (off .zone) in
@@ -92,11 +85,9 @@ module _ (m : Market) (o : Outcome) (t : Plan) (proper : Proper m) (planned : Pl
       (omega (arith, off .gains, way .worth, at-v, at-hub, begins), rest)
 
   calm-asked :
-      Each-pays m o t →
-      ((v : ℕ) → v < m .zones → 0 < at (t .worth) v → Way-shown m o t v (at (t .worth) v - 1)) →
       (v : ℕ) → v < m .zones → (y : Tally) → ((x : Step) → Free m (y .outcome) x → Calm m t x) →
       (x : Step) → Free m (asked m t v y .outcome) x → Calm m t x
-  calm-asked each shown v h y before =
+  calm-asked v h y before =
       asked-keeps m t v y (λ z. (x : Step) → Free m (z .outcome) x → Calm m t x) before (λ paid fits. after paid)
     where
       after :
@@ -105,17 +96,15 @@ module _ (m : Market) (o : Outcome) (t : Plan) (proper : Proper m) (planned : Pl
       after paid =
           let asks = ltb-true _ _ (and-parts (ltb 0 (at (t .ask) v)) _ paid .1) in
           let some : 0 < at (t .worth) v = omega (arith, asks) in
-          let held = closed-held v some (each v h paid) (shown v h some) in
+          let held = closed-held v some (pays-off m o t proper planned v h paid) in
           free-pushed m (Calm m t) (fitting m t v y) (closed-way m t v) (y .outcome) before
           (all-weaker (Held m t) (λ s. Calm m t (back s)) (calm-back m t) (closed-way m t v) held)
 
   pub calm-swept :
-      Each-pays m o t →
-      ((v : ℕ) → v < m .zones → 0 < at (t .worth) v → Way-shown m o t v (at (t .worth) v - 1)) →
       (n : ℕ) → n ≤ m .zones → (x : Step) → Free m (swept m t n o .outcome) x → Calm m t x
-  calm-swept each shown zero h = calm-free m o t proper planned
-  calm-swept each shown (suc n) h =
-      calm-asked each shown n (omega arith) (swept m t n o) (calm-swept each shown n (omega arith))
+  calm-swept zero h = calm-free m o t proper planned
+  calm-swept (suc n) h =
+      calm-asked n (omega arith) (swept m t n o) (calm-swept n (omega arith))
 
 -- Idea: no free step raises the old labels, so no way through free steps is worth more than they say.
 module _ (m : Market) (p : Outcome) (t : Plan) (proper : Proper m) (calm : (x : Step) → Free m p x → Calm m t x) where
@@ -150,7 +139,7 @@ module _ (m : Market) (p : Outcome) (t : Plan) (proper : Proper m) (calm : (x : 
   own-bound z h =
       elim (cases-lt 0 (own m p z)) [
         | inl some ↦
-            let (k, taken) = worth-some m p z (taker m p z) some in
+            let (k, taken) = worth-some m (taker m p z) some in
             let found = taker-found m p z k taken in
             let goes = taking-goes m (item-no m k) (bid-numbered m k (found .below) .bid) in
             let step = hub-bound (taking (item-no m k)) z h (found .free) (goes .from ∙ found .zone) (goes .to) in
@@ -167,10 +156,9 @@ module _ (m : Market) (p : Outcome) (t : Plan) (proper : Proper m) (calm : (x : 
       let below : w < m .zones = omega (arith, proper .from l (leads .free .among), leads .to) in
       omega (arith, line-bound (Backward (Line l)) v w h below leads, along-bound k w c below rest)
 
-pub labels-fall : Pays-off-law → Way-shown-law → Labels-fall
-labels-fall pays-off shown m o s t proper f planned after v h =
-    let each = pays-off m o s proper planned in
-    let calm = calm-swept m o s proper planned each (shown m o s proper planned) (m .zones) (omega arith) in
+pub labels-fall : Labels-fall
+labels-fall m o s t proper f planned after v h =
+    let calm = calm-swept m o s proper planned (m .zones) (omega arith) in
     elim (cases-lt 0 (at (t .worth) v)) [
       | inl some ↦
           along-bound m (swept m s (m .zones) o .outcome) s proper calm (at (t .far) v) v (at (t .worth) v) h
