@@ -10,7 +10,8 @@ use Rattle.std.proofs.shelf.Lists.{length-map}
 use Rattle.hour.specs.Total.{tagged}
 use Rattle.hour.specs.Market.{Market, Outcome, Feasible, at, bid, line}
 use Rattle.hour.proofs.Total.{total-same, total-none}
-use Rattle.paths.specs.Promises.{Some-plan, Lowest-labels, prices-of}
+use Rattle.paths.specs.Promises.{prices-of}
+use Rattle.paths.proofs.Shown.{lowest-labels}
 use Rattle.circulation.specs.Promises.{Always}
 use Rattle.circulation.proofs.Runs.{run-reaches, run-ends}
 
@@ -39,10 +40,10 @@ nothing-feasible m =
       );
     }
 
-pub always : Some-plan → Lowest-labels → Always
-always some-plan lowest-labels m proper =
+pub always : Always
+always m proper =
     let start = nothing-feasible m in
-    let ended = run-ends some-plan m nothing proper start in
+    let ended = run-ends m nothing proper start in
     let t = ended .tables in
     let end = run-reaches m nothing (ended .end) (ended .count) t proper start (ended .run) in
     let lowest = lowest-labels m (ended .end) t proper (end .sound .feasible) (end .planned) (end .none-pays) in

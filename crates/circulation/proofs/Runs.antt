@@ -9,8 +9,9 @@ use Rattle.std.specs.declared.option.Option.the-variants.{Some, None}
 use Rattle.std.proofs.shelf.Tests.{both-ways}
 use Rattle.hour.specs.Market.{Market, Outcome, Proper, Feasible}
 use Rattle.paths.specs.Plan.{Plan, Planned, first-paying}
-use Rattle.paths.specs.Promises.{Some-plan, Lowest-labels}
 use Rattle.paths.proofs.OnePlan.{one-plan}
+use Rattle.paths.proofs.SomePlan.{some-plan}
+use Rattle.paths.proofs.Shown.{lowest-labels}
 use Rattle.circulation.specs.Sweep.{swept}
 use Rattle.circulation.specs.Run.{Runs, Run}
 use Rattle.circulation.specs.Promises.{value, top, Steps-sound, Same-run, Ended}
@@ -75,8 +76,8 @@ run-reaches m o p n t proper f run = runs-reach m proper (run .0) o p n t f (run
 pub push-by-push : Push-by-push
 push-by-push m o p n t proper f run = run-reaches m o p n t proper f run .sound
 
-pub run-settles : Lowest-labels → Run-settles
-run-settles lowest-labels m o p n t proper f run =
+pub run-settles : Run-settles
+run-settles m o p n t proper f run =
     let end = run-reaches m o p n t proper f run in
     lowest-labels m p t proper (end .sound .feasible) (end .planned) (end .none-pays)
 
@@ -106,13 +107,13 @@ end-later m o s proper f planned some later =
 
 -- Idea: while a zone pays a sweep raises the value, and the value has a top.
 run-within :
-    Some-plan → (m : Market) → Proper m → (fuel : ℕ) (o : Outcome) → Feasible m o → top m < value m o + fuel →
+    (m : Market) → Proper m → (fuel : ℕ) (o : Outcome) → Feasible m o → top m < value m o + fuel →
     Ended m o
-run-within some-plan m proper zero o f enough =
+run-within m proper zero o f enough =
     let never : ⊥ = omega (arith, value-top m o f) in
     absurd never
-run-within some-plan m proper (suc fuel) o f enough =
-    go (first-paying m s) refl (run-within some-plan m proper fuel (swept m s (m .zones) o .outcome))
+run-within m proper (suc fuel) o f enough =
+    go (first-paying m s) refl (run-within m proper fuel (swept m s (m .zones) o .outcome))
   where
     s : Plan
     s = some-plan m o proper .0
@@ -132,8 +133,8 @@ run-within some-plan m proper (suc fuel) o f enough =
         let grows = some-pushes m o s proper planned some in
         end-later m o s proper f planned some (later (sweep .feasible) (omega (arith, sweep .rises, grows)))
 
-pub run-ends : Some-plan → Run-ends
-run-ends some-plan m o proper f = run-within some-plan m proper (suc (top m)) o f (omega arith)
+pub run-ends : Run-ends
+run-ends m o proper f = run-within m proper (suc (top m)) o f (omega arith)
 
 one-end :
     (m : Market) (t : Plan) → first-paying m t ≡ None → isSome (first-paying m t) ≡ true → ⊥
