@@ -1,4 +1,2 @@
 // Pushes along closed ways that pay, until none does.
-pub fn nothing() -> u8 {
-    0
-}
+pub mod promises;

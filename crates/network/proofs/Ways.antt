@@ -19,7 +19,7 @@ use Rattle.network.proofs.Weighed.{at-put-same, at-put-other, weighed-carry}
 use Rattle.network.proofs.Market.{within, worth-gained, worth-spent, balanced-arcs, feasible-by-arcs}
 
 -- an item carries what it was given, or what it carried before
-abbrev Carries : Outcome → Item → ℕ → Item → Type 0
+abbrev pub Carries : Outcome → Item → ℕ → Item → Type 0
 Carries o i x j = ((i ≡ j) × (carried (carry o i x) j ≡ x)) ⊎ (carried (carry o i x) j ≡ carried o j)
 
 put-carries :
@@ -31,7 +31,7 @@ put-carries sort xs k x j =
       | inr ne ↦ inr (at-put-other xs k x j ne)
     ]
 
-carries : (o : Outcome) (i : Item) (x : ℕ) (j : Item) → Carries o i x j
+pub carries : (o : Outcome) (i : Item) (x : ℕ) (j : Item) → Carries o i x j
 carries o (Buy k) x (Buy j) = put-carries Buy (o .bought) k x j
 carries o (Buy k) x (Sell j) = inr refl
 carries o (Buy k) x (Line j) = inr refl

@@ -10,3 +10,7 @@ pub mod Ends
 pub mod Rounds
 pub mod OnePlan
 pub mod WaysOut
+pub mod Rings
+pub mod Shown
+pub mod Raising
+pub mod SomePlan

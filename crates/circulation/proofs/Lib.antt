@@ -1,0 +1,11 @@
+pub mod Bottleneck
+pub mod Value
+pub mod Few
+pub mod Pushed
+pub mod Paying
+pub mod Sweeping
+pub mod Swept
+pub mod Runs
+pub mod Always
+pub mod Calm
+pub mod Fall
