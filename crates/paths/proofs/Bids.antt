@@ -1,27 +1,25 @@
 -- Laws of takers and givers: which steps they are, and that no free bid is better. Assumes nothing.
 --
 --   Bid-step m s a b      the step s along a bid goes from node a to node b
-use mathlib.Core.Bool.{Bool, true, false}
+use mathlib.Core.Bool.{true}
 use mathlib.Core.Logic.{inl, inr}
-use mathlib.Core.Path.{_≡_, refl, sym, ap, subst⁻¹, _∙_}
-use Prim.Native.Nat.{ℕ, zero, suc, _+_, _-_, _≤_, _<_}
+use mathlib.Core.Path.{_≡_, refl, ap, subst⁻¹}
+use Prim.Native.Nat.{ℕ, suc, _+_, _-_, _≤_, _<_}
 use native.Mathlib.Omega.{arith}
-use lib.Dec.{eqb, ltb}
 use lib.ListN.{length}
 use Rattle.std.proofs.shelf.Tests.{cases-lt, and-parts, and-from, eqb-true, eq-eqb, ltb-true, lt-ltb, ltb-false}
 use Rattle.std.specs.declared.option.Option.{Option}
 use Rattle.std.specs.declared.option.Option.the-variants.{Some, None}
-use Rattle.hour.specs.Market.{Market, Outcome, bid, line}
+use Rattle.hour.specs.Market.{Market, Outcome, bid}
 use Rattle.network.specs.Network.{Among, hub}
 use Rattle.network.specs.Ways.{Free, room, start, finish, item, step-cost, step-gain}
 use Rattle.network.specs.declared.arcs.Item.{Item}
 use Rattle.network.specs.declared.arcs.Item.the-variants.{Buy, Sell, Line}
 use Rattle.network.specs.declared.arcs.Step.{Step}
-use Rattle.network.specs.declared.arcs.Step.the-variants.{Forward, Backward}
 use Rattle.network.proofs.Items.{nth-buy, nth-sell, nth-line}
 use Rattle.paths.specs.Bids.{bids, item-no, taking, giving, zone-of, price-of, takes, gives, dearer, cheaper}
 use Rattle.paths.specs.Bids.{taker, giver, worth-at, own}
-use Rattle.paths.proofs.Best.{Chosen, strict-higher, strict-lower, best-some, best-found}
+use Rattle.paths.proofs.Best.{strict-higher, strict-lower, best-some, best-found}
 
 abbrev pub Is-bid : Item → Type 0
 Is-bid (Buy k) = Unit {0}

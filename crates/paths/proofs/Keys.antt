@@ -4,8 +4,8 @@
 --   keys                 all keys of n zones together; every raise adds to it
 --   higher               how many of n keys are higher than a given one
 --   Raises worth far v w zone w, over one line more, is better than what zone v has
---   Keyed n top          no label is worth more than top, and each zone has as many zones with a higher key as its way has
---                        lines; so no way has n lines
+--   Keyed n top          no label is worth more than top, and each zone's way has at most as many lines as there are zones
+--                        with a higher key; so no way has n lines
 --   left                 what the keys have yet to grow at most
 use mathlib.Core.Bool.{cond}
 use mathlib.Core.List.{List}
@@ -44,8 +44,10 @@ pub record Keyed (n top : ℕ) (worth far : List ℕ) : Type 0 where
 abbrev pub left : ℕ → ℕ → List ℕ → List ℕ → ℕ
 left n top worth far = n * ((top + 1) * (n + 1)) - keys n worth far
 
-suc-add : (k : ℕ) → suc k ≡ k + 1
-suc-add k = omega arith
+suc-mul : (k c : ℕ) → suc k * c ≡ k * c + c
+suc-mul k c =
+    let next : suc k ≡ k + 1 = omega arith in
+    omega (arith, ap (λ j. j * c) next, add-mul k 1 c, one-mul c)
 
 -- sums of parts in order, one of them strictly
 total-lt :
@@ -57,14 +59,7 @@ total-lt n k f g le h less =
 total-limit : (n c : ℕ) (f : ℕ → ℕ) → ((k : ℕ) → k < n → f k ≤ c) → total n f ≤ n * c
 total-limit zero c f le = omega arith
 total-limit (suc n) c f le =
-    omega (
-      arith,
-      total-limit n c f (λ k h. le k (omega arith)),
-      le n (omega arith),
-      add-mul n 1 c,
-      one-mul c,
-      ap (λ j. j * c) (suc-add n),
-    )
+    omega (arith, total-limit n c f (λ k h. le k (omega arith)), le n (omega arith), suc-mul n c)
 
 -- one mark for a number that is higher
 mark-le : (a b c d : ℕ) → (a < b → c < d) → cond (ltb a b) 1 0 ≤ cond (ltb c d) 1 0
@@ -88,7 +83,7 @@ higher-less n f v h =
     omega (
       arith,
       total-lt n v (λ u. cond (ltb (f v) (f u)) 1 0) (λ u. 1) (λ u l. mark-one (f v) (f u)) h
-      (omega (arith, mark-none (f v) (f v) (omega arith))),
+          (omega (arith, mark-none (f v) (f v) (omega arith))),
       total-limit n 1 (λ u. 1) (λ u l. omega arith),
     )
 
@@ -119,102 +114,110 @@ module _
     (n top : ℕ) (worth far : List ℕ) (v w : ℕ) (k : Keyed n top worth far) (v-below : v < n) (w-below : w < n)
     (raises : Raises worth far v w)
   where
-  abbrev worth′ : List ℕ
-  worth′ = set worth v (at worth w)
+    abbrev worth′ : List ℕ
+    worth′ = set worth v (at worth w)
 
-  abbrev far′ : List ℕ
-  far′ = set far v (at far w + 1)
+    abbrev far′ : List ℕ
+    far′ = set far v (at far w + 1)
 
-  abbrev before : ℕ → ℕ
-  before = key n worth far
+    abbrev before : ℕ → ℕ
+    before = key n worth far
 
-  abbrev after : ℕ → ℕ
-  after = key n worth′ far′
+    abbrev after : ℕ → ℕ
+    after = key n worth′ far′
 
-  worth-here : at worth′ v ≡ at worth w
-  worth-here = getD-set-same worth v (at worth w) 0 (omega arith)
+    worth-here : at worth′ v ≡ at worth w
+    worth-here = getD-set-same worth v (at worth w) 0 (omega arith)
 
-  far-here : at far′ v ≡ at far w + 1
-  far-here = getD-set-same far v (at far w + 1) 0 (omega arith)
+    far-here : at far′ v ≡ at far w + 1
+    far-here = getD-set-same far v (at far w + 1) 0 (omega arith)
 
-  worth-there : (u : ℕ) → u ≢ v → at worth′ u ≡ at worth u
-  worth-there u ne = getD-set-other worth v u (at worth w) 0 ne
+    worth-there : (u : ℕ) → u ≢ v → at worth′ u ≡ at worth u
+    worth-there u ne = getD-set-other worth v u (at worth w) 0 ne
 
-  far-there : (u : ℕ) → u ≢ v → at far′ u ≡ at far u
-  far-there u ne = getD-set-other far v u (at far w + 1) 0 ne
+    far-there : (u : ℕ) → u ≢ v → at far′ u ≡ at far u
+    far-there u ne = getD-set-other far v u (at far w + 1) 0 ne
 
-  apart : w ≢ v
-  apart e =
-      elim raises [
-        | inl l ↦ omega (arith, ap (at worth) e)
-        | inr both ↦ omega (arith, ap (at far) e)
-      ]
+    apart : w ≢ v
+    apart e =
+        elim raises [
+          | inl l ↦ omega (arith, ap (at worth) e)
+          | inr both ↦ omega (arith, ap (at far) e)
+        ]
 
-  same-there : (u : ℕ) → u ≢ v → after u ≡ before u
-  same-there u ne =
-      omega (arith, ap (λ x. x * (n + 1)) (worth-there u ne), far-there u ne)
+    same-there : (u : ℕ) → u ≢ v → after u ≡ before u
+    same-there u ne =
+        omega (arith, ap (λ x. x * (n + 1)) (worth-there u ne), far-there u ne)
 
-  next-here : after v + 1 ≡ before w
-  next-here =
-      omega (arith, ap (λ x. x * (n + 1)) worth-here, far-here, far-below n top worth far k w w-below)
+    next-here : after v + 1 ≡ before w
+    next-here =
+        omega (arith, ap (λ x. x * (n + 1)) worth-here, far-here, far-below n top worth far k w w-below)
 
-  rises-here : before v < after v
-  rises-here =
-      elim raises [
-        | inl l ↦ omega (arith, next-here, far-below n top worth far k w w-below, mul-le-mul-right (n + 1) l, add-mul (at worth v) 1 (n + 1), one-mul (n + 1), ap (λ x. x * (n + 1)) (suc-add (at worth v)))
-        | inr both ↦ omega (arith, next-here, far-below n top worth far k v v-below, ap (λ x. x * (n + 1)) (both .0))
-      ]
+    rises-here : before v < after v
+    rises-here =
+        elim raises [
+          | inl l ↦
+              omega (
+                arith,
+                next-here,
+                far-below n top worth far k w w-below,
+                mul-le-mul-right (n + 1) l,
+                suc-mul (at worth v) (n + 1),
+              )
+          | inr (same, nearer) ↦
+              omega (arith, next-here, far-below n top worth far k v v-below, ap (λ x. x * (n + 1)) same)
+        ]
 
-  rises : (u : ℕ) → before u ≤ after u
-  rises u =
-      elim (cases-eq u v) [
-        | inl e ↦ omega (arith, rises-here, ap before e, ap after e)
-        | inr ne ↦ omega (arith, same-there u ne)
-      ]
+    rises : (u : ℕ) → before u ≤ after u
+    rises u =
+        elim (cases-eq u v) [
+          | inl e ↦ omega (arith, rises-here, ap before e, ap after e)
+          | inr ne ↦ omega (arith, same-there u ne)
+        ]
 
-  pub keys-raised : keys n worth far < keys n worth′ far′
-  keys-raised = total-lt n v before after (λ u h. rises u) v-below rises-here
+    pub keys-raised : keys n worth far < keys n worth′ far′
+    keys-raised = total-lt n v before after (λ u h. rises u) v-below rises-here
 
-  passed-here : at far′ v ≤ higher n after (after v)
-  passed-here =
-      omega (
-        arith,
-        far-here,
-        k .passed w w-below,
-        total-lt n w (λ u. cond (ltb (before w) (before u)) 1 0) (λ u. cond (ltb (after v) (after u)) 1 0)
-        (λ u h. mark-le (before w) (before u) (after v) (after u) (λ l. omega (arith, rises u, next-here)))
-        w-below
-        (omega (
+    passed-here : at far′ v ≤ higher n after (after v)
+    passed-here =
+        omega (
           arith,
-          mark-none (before w) (before w) (omega arith),
-          mark-some (after v) (after w) (omega (arith, next-here, same-there w apart)),
-        )),
-      )
+          far-here,
+          k .passed w w-below,
+          total-lt n w (λ u. cond (ltb (before w) (before u)) 1 0) (λ u. cond (ltb (after v) (after u)) 1 0)
+              (λ u h. mark-le (before w) (before u) (after v) (after u) (λ l. omega (arith, rises u, next-here)))
+              w-below
+              (omega (
+                arith,
+                mark-none (before w) (before w) (omega arith),
+                mark-some (after v) (after w) (omega (arith, next-here, same-there w apart)),
+              )),
+        )
 
-  passed-there : (u : ℕ) → u < n → u ≢ v → at far′ u ≤ higher n after (after u)
-  passed-there u h ne =
-      omega (
-        arith,
-        far-there u ne,
-        k .passed u h,
-        total-le n (λ j. cond (ltb (before u) (before j)) 1 0) (λ j. cond (ltb (after u) (after j)) 1 0)
-        (λ j l. mark-le (before u) (before j) (after u) (after j) (λ less. omega (arith, rises j, same-there u ne))),
-      )
+    passed-there : (u : ℕ) → u < n → u ≢ v → at far′ u ≤ higher n after (after u)
+    passed-there u h ne =
+        omega (
+          arith,
+          far-there u ne,
+          k .passed u h,
+          total-le n (λ j. cond (ltb (before u) (before j)) 1 0) (λ j. cond (ltb (after u) (after j)) 1 0)
+              (λ j l. mark-le (before u) (before j) (after u) (after j) (λ less. omega (arith, rises j, same-there u ne))),
+        )
 
-  pub keyed-raised : Keyed n top worth′ far′
-  keyed-raised =
-      record {
-        worth-long = length-set worth v (at worth w) ∙ k .worth-long;
-        far-long = length-set far v (at far w + 1) ∙ k .far-long;
-        most = λ u h. elim (cases-eq u v) [
-          | inl e ↦ omega (arith, ap (at worth′) e, worth-here, k .most w w-below)
-          | inr ne ↦ omega (arith, worth-there u ne, k .most u h)
-        ];
-        passed = λ u h. elim (cases-eq u v) [
-          | inl e ↦ subst⁻¹ (λ x. at far′ x ≤ higher n after (after x)) e passed-here
-          | inr ne ↦ passed-there u h ne
-        ];
-      }
+    pub keyed-raised : Keyed n top worth′ far′
+    keyed-raised =
+        record {
+          worth-long = length-set worth v (at worth w) ∙ k .worth-long;
+          far-long = length-set far v (at far w + 1) ∙ k .far-long;
+          most = λ u h. elim (cases-eq u v) [
+            | inl e ↦ omega (arith, ap (at worth′) e, worth-here, k .most w w-below)
+            | inr ne ↦ omega (arith, worth-there u ne, k .most u h)
+          ];
+          passed = λ u h. elim (cases-eq u v) [
+            | inl e ↦ subst⁻¹ (λ x. at far′ x ≤ higher n after (after x)) e passed-here
+            | inr ne ↦ passed-there u h ne
+          ];
+        }
 
-  pub left-falls : left n top worth′ far′ < left n top worth far
-  left-falls = omega (arith, keys-raised, keys-below n top worth′ far′ keyed-raised)
+    pub left-falls : left n top worth′ far′ < left n top worth far
+    left-falls = omega (arith, keys-raised, keys-below n top worth′ far′ keyed-raised)

@@ -2,18 +2,17 @@
 --
 --   Way-of m o t k v    the way of k lines that t shows from zone v: it leads to the hub through what is free, costs nothing,
 --                       gains what the label says, and leaves zones only, each with fewer lines to go than the one before
-use mathlib.Core.Bool.{Bool, true, cond}
-use mathlib.Core.List.{List, [], _∷_}
-use mathlib.Core.Logic.{_≢_, inl, inr}
-use mathlib.Core.Path.{_≡_, refl, sym, ap, subst, subst⁻¹, _∙_}
+use mathlib.Core.Bool.{true}
+use mathlib.Core.List.{List, _∷_}
+use mathlib.Core.Logic.{_≢_}
+use mathlib.Core.Path.{_≡_, refl, ap, subst, subst⁻¹, _∙_}
 use Prim.Native.Nat.{ℕ, zero, suc, _+_, _-_, _≤_, _<_}
 use native.Mathlib.Omega.{arith}
-use lib.Dec.{eqb, ltb}
+use lib.Dec.{eqb}
 use lib.ListN.{length}
 use Rattle.std.specs.shelf.Lists.{All}
 use Rattle.std.proofs.shelf.Elements.{all-weaker}
 use Rattle.std.proofs.shelf.Tests.{and-parts, ltb-true, cond-true, cond-false, cond-both, eq-eqb, ne-eqb}
-use Rattle.hour.specs.First.{when, first}
 use Rattle.hour.specs.Market.{Market, Outcome, Proper, at, line}
 use Rattle.network.specs.Network.{hub}
 use Rattle.network.specs.Ways.{Free, Links, Once, start, finish, step-cost, step-gain, way-cost, way-gain}
@@ -22,15 +21,15 @@ use Rattle.network.specs.declared.arcs.Item.the-variants.{Buy, Sell, Line}
 use Rattle.network.specs.declared.arcs.Step.{Step}
 use Rattle.network.specs.declared.arcs.Step.the-variants.{Forward, Backward}
 use Rattle.paths.specs.Best.{numbered}
-use Rattle.paths.specs.Bids.{bids, item-no, taking, giving, price-of, zone-of, taker, giver, own, worth-at}
+use Rattle.paths.specs.Bids.{bids, item-no, taking, giving, taker, giver, own}
 use Rattle.paths.specs.Labels.{Along}
-use Rattle.paths.specs.Plan.{Plan, Planned, pays, onward, line-no, out-no, step-out, out-step, way-out, closed-way}
+use Rattle.paths.specs.Plan.{Plan, Planned, pays, onward, line-no, step-out, out-step, way-out}
 use Rattle.paths.specs.Promises.{Way-shown, Pays-off}
 use Rattle.paths.proofs.Best.{first-passing, first-passes}
-use Rattle.paths.proofs.Bids.{Is-bid, Goes, Found, bid-numbered, taking-goes, giving-goes, taker-found, giver-found}
+use Rattle.paths.proofs.Bids.{Is-bid, Goes, bid-numbered, taking-goes, giving-goes, taker-found, giver-found}
 use Rattle.paths.proofs.Bids.{worth-some}
 use Rattle.paths.proofs.Bids as items
-use Rattle.paths.proofs.Labels.{Onward, over-joins, onward-some, onward-out}
+use Rattle.paths.proofs.Labels.{onward-some, onward-out}
 
 -- out of a zone along a bid is to the hub
 step-out-bid : (m : Market) (v : ℕ) (i : Item) → Is-bid i → step-out m v i ≡ taking i
@@ -158,13 +157,15 @@ module _ (m : Market) (o : Outcome) (t : Plan) (proper : Proper m) (p : Planned 
         free = (s .free, rest .free);
         costs = omega (arith, s .goes .costs, rest .costs);
         gains = omega (arith, s .goes .gains, rest .gains, s .as-much);
-        leaves =
-            ((omega (arith, s .goes .from), omega arith),
-            all-weaker (Leaves k) (Leaves (suc k)) (λ x l. omega (arith, l)) (way-out m t k w) (rest .leaves));
-        once =
-            (all-weaker (Leaves k) (λ x. start m x ≢ start m (out-step m t v))
-            (λ x l e. omega (arith, l, ap (at (t .far)) e)) (way-out m t k w) (rest .leaves),
-            rest .once);
+        leaves = (
+          (omega (arith, s .goes .from), omega arith),
+          all-weaker (Leaves k) (Leaves (suc k)) (λ x l. omega (arith, l)) (way-out m t k w) (rest .leaves),
+        );
+        once = (
+          all-weaker (Leaves k) (λ x. start m x ≢ start m (out-step m t v))
+              (λ x l e. omega (arith, l, ap (at (t .far)) e)) (way-out m t k w) (rest .leaves),
+          rest .once,
+        );
       }
 
   pub way-shown : (v : ℕ) → v < m .zones → 0 < at (t .worth) v → Way-shown m o t v (at (t .worth) v - 1)
@@ -191,10 +192,11 @@ module _ (m : Market) (o : Outcome) (t : Plan) (proper : Proper m) (p : Planned 
       (record {
         links = (goes .from, subst⁻¹ (λ a. Links m a ways (hub m)) (goes .to ∙ found .zone) (rest .links));
         free = (found .free, rest .free);
-        once =
-            (all-weaker (Leaves (at (t .far) v)) (λ x. start m x ≢ start m (giving (item-no m k)))
-            (λ x l e. omega (arith, l, goes .from)) ways (rest .leaves),
-            rest .once);
+        once = (
+          all-weaker (Leaves (at (t .far) v)) (λ x. start m x ≢ start m (giving (item-no m k)))
+              (λ x l e. omega (arith, l, goes .from)) ways (rest .leaves),
+          rest .once,
+        );
         gains = omega (arith, goes .costs, goes .gains, rest .costs, rest .gains, found .worth, p .ask v below);
       }) in
       record {
