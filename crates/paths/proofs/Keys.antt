@@ -4,8 +4,8 @@
 --   keys                 all keys of n zones together; every raise adds to it
 --   higher               how many of n keys are higher than a given one
 --   Raises worth far v w zone w, over one line more, is better than what zone v has
---   Keyed n top          no label is worth more than top, and each zone's way has at most as many lines as there are zones
---                        with a higher key; so no way has n lines
+--   Keyed n top          no label is worth more than top, and each zone's way has at most as many lines as there are
+--                        zones with a higher key; so no way has n lines
 --   left                 what the keys have yet to grow at most
 use mathlib.Core.Bool.{cond}
 use mathlib.Core.List.{List}
@@ -109,7 +109,7 @@ pub keyed-start :
 keyed-start n top worth far worth-long far-long most none =
     record { worth-long = worth-long; far-long = far-long; most = most; passed = λ v h. omega (arith, none v h) }
 
--- Idea: the raised label's key is one below that of w, so w and all above w are above v; for others no key above falls.
+-- Idea: the raised label's key is one below that of w, so w and all above w are above v; for others no key falls.
 module _
     (n top : ℕ) (worth far : List ℕ) (v w : ℕ) (k : Keyed n top worth far) (v-below : v < n) (w-below : w < n)
     (raises : Raises worth far v w)
@@ -196,12 +196,13 @@ module _
 
     passed-there : (u : ℕ) → u < n → u ≢ v → at far′ u ≤ higher n after (after u)
     passed-there u h ne =
+        let same = same-there u ne in
         omega (
           arith,
           far-there u ne,
           k .passed u h,
           total-le n (λ j. cond (ltb (before u) (before j)) 1 0) (λ j. cond (ltb (after u) (after j)) 1 0)
-              (λ j l. mark-le (before u) (before j) (after u) (after j) (λ less. omega (arith, rises j, same-there u ne))),
+              (λ j l. mark-le (before u) (before j) (after u) (after j) (λ h. omega (arith, rises j, same))),
         )
 
     pub keyed-raised : Keyed n top worth′ far′

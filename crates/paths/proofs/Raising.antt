@@ -1,7 +1,7 @@
--- Labels on the way to the best: a raise keeps what they say, and where no line raises one they are best. Assumes nothing.
+-- Labels on the way to the best: a raise keeps them, and where no line raises one they are best. Assumes nothing.
 --
---   Reaching m o top worth far   each label above 0 is that of a free way, no own taker is better than its zone's label,
---                                and the labels are keyed (see Keys)
+--   Reaching m o top worth far   each label above 0 is that of a free way, no own taker is better than its zone's
+--                                label, and the labels are keyed (see Keys)
 --   Step-raises                  a free step that raises a label
 --   Unraised                     no step along a line does
 use mathlib.Core.List.{List}

@@ -1,4 +1,4 @@
--- What tables show: where no zone pays, the labels are the lowest prices; else a closed way that gains. Assumes nothing.
+-- What tables show: where no zone pays, the lowest prices; else a closed way that gains. Assumes nothing.
 use mathlib.Core.Bool.{false}
 use mathlib.Core.List.{List, [], _∷_}
 use mathlib.Core.Logic.{inl, inr}

@@ -81,14 +81,18 @@ module _ (m : Market) (o : Outcome) (worth far : List ℕ) where
         | inr full ↦ inr (λ r. omega (arith, r .free .room))
       ]
 
+  raised-over :
+      {l v w : ℕ} → Over m o l v w → 0 < at worth w → Raises worth far v w → Raised m o worth far l
+  raised-over {l} {v} {w} over some raises =
+      record { from = v; to = w; over = over; some = some; raises = raises }
+
   cases-line : (l : ℕ) → l < length (m .lines) → Raised m o worth far l ⊎ Unraised m o worth far l
   cases-line l below =
       elim (cases-step (Forward (Line l)) below) [
-        | inl r ↦ inl (record { over = over-forward m o l (r .free); some = r .some; raises = r .raises; from = _; to = _ })
+        | inl r ↦ inl (raised-over (over-forward m o l (r .free)) (r .some) (r .raises))
         | inr ahead ↦
             elim (cases-step (Backward (Line l)) below) [
-              | inl r ↦
-                  inl (record { over = over-backward m o l (r .free); some = r .some; raises = r .raises; from = _; to = _ })
+              | inl r ↦ inl (raised-over (over-backward m o l (r .free)) (r .some) (r .raises))
               | inr back ↦ inr (unraised-line m o worth far l ahead back)
             ]
       ]

@@ -1,7 +1,7 @@
 -- The ways that tables show: from each zone to the hub, and closed through a zone that pays. Assumes nothing.
 --
---   Way-of m o t k v    the way of k lines that t shows from zone v: it leads to the hub through what is free, costs nothing,
---                       gains what the label says, and leaves zones only, each with fewer lines to go than the one before
+--   Way-of m o t k v    the way of k lines that t shows from zone v: it leads to the hub through what is free, costs
+--                       nothing, gains what the label says, and leaves zones only, each nearer the hub than the last
 use mathlib.Core.Bool.{true}
 use mathlib.Core.List.{List, _∷_}
 use mathlib.Core.Logic.{_≢_}
@@ -71,9 +71,9 @@ pub record Next (m : Market) (o : Outcome) (t : Plan) (v : ℕ) (s : Step) : Typ
 module _ (m : Market) (o : Outcome) (t : Plan) (proper : Proper m) (p : Planned m o t) where
   last-step : (v : ℕ) → v < m .zones → 0 < at (t .worth) v → at (t .far) v ≡ 0 → Last m o t v (out-step m t v)
   last-step v below some near =
-      let own : own m o v ≡ at (t .worth) v =
+      let is-own : own m o v ≡ at (t .worth) v =
       subst (λ x. Along m o x v (at (t .worth) v)) near (p .labels .way v below some) in
-      let (k, taken) = worth-some m (taker m o v) (omega (arith, own)) in
+      let (k, taken) = worth-some m (taker m o v) (omega (arith, is-own)) in
       let found = taker-found m o v k taken in
       let is-bid = bid-numbered m k (found .below) .bid in
       let goes = taking-goes m (item-no m k) is-bid in
@@ -135,7 +135,7 @@ module _ (m : Market) (o : Outcome) (t : Plan) (proper : Proper m) (p : Planned 
     pub leaves : All (Leaves k) (way-out m t k v)
     pub once : Once m (way-out m t k v)
 
-  -- Idea: the way's first step is the table's; the rest is the way of the next zone, whose zones have fewer lines to go.
+  -- Idea: the way's first step is the table's; the rest is the way of the next zone, and has fewer lines to go.
   pub way-of : (k v : ℕ) → v < m .zones → 0 < at (t .worth) v → at (t .far) v ≡ k → Way-of k v
   way-of zero v below some far =
       let s = last-step v below some far in
