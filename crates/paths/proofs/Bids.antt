@@ -1,34 +1,33 @@
 -- Laws of takers and givers: which steps they are, and that no free bid is better. Assumes nothing.
 --
---   Bid-step m s a b      the step s along a bid goes from node a to node b
-use mathlib.Core.Bool.{Bool, true, false}
+--   Is-bid, Numbers-bid   an item is a buy or a sell; it is one of the market's
+--   Goes m s a b c g      the step s goes from node a to node b, costs c and gains g
+--   Found m o s z k c     bid k lies in zone z, its step s is free, and it is worth c as a table has it
+use mathlib.Core.Bool.{true}
 use mathlib.Core.Logic.{inl, inr}
-use mathlib.Core.Path.{_≡_, refl, sym, ap, subst⁻¹, _∙_}
-use Prim.Native.Nat.{ℕ, zero, suc, _+_, _-_, _≤_, _<_}
+use mathlib.Core.Path.{_≡_, refl, ap, subst⁻¹}
+use Prim.Native.Nat.{ℕ, suc, _+_, _-_, _≤_, _<_}
 use native.Mathlib.Omega.{arith}
-use lib.Dec.{eqb, ltb}
 use lib.ListN.{length}
 use Rattle.std.proofs.shelf.Tests.{cases-lt, and-parts, and-from, eqb-true, eq-eqb, ltb-true, lt-ltb, ltb-false}
 use Rattle.std.specs.declared.option.Option.{Option}
 use Rattle.std.specs.declared.option.Option.the-variants.{Some, None}
-use Rattle.hour.specs.Market.{Market, Outcome, bid, line}
+use Rattle.hour.specs.Market.{Market, Outcome, bid}
 use Rattle.network.specs.Network.{Among, hub}
 use Rattle.network.specs.Ways.{Free, room, start, finish, item, step-cost, step-gain}
 use Rattle.network.specs.declared.arcs.Item.{Item}
 use Rattle.network.specs.declared.arcs.Item.the-variants.{Buy, Sell, Line}
 use Rattle.network.specs.declared.arcs.Step.{Step}
-use Rattle.network.specs.declared.arcs.Step.the-variants.{Forward, Backward}
 use Rattle.network.proofs.Items.{nth-buy, nth-sell, nth-line}
 use Rattle.paths.specs.Bids.{bids, item-no, taking, giving, zone-of, price-of, takes, gives, dearer, cheaper}
 use Rattle.paths.specs.Bids.{taker, giver, worth-at, own}
-use Rattle.paths.proofs.Best.{Chosen, strict-higher, strict-lower, best-some, best-found}
+use Rattle.paths.proofs.Best.{strict-higher, strict-lower, best-some, best-found}
 
 abbrev pub Is-bid : Item → Type 0
 Is-bid (Buy k) = Unit {0}
 Is-bid (Sell k) = Unit {0}
 Is-bid (Line k) = ⊥
 
--- the number of a bid is that of a buy or of a sell among the market's
 pub record Numbers-bid (m : Market) (i : Item) : Type 0 where
   pub bid : Is-bid i
   pub among : Among m i
@@ -55,7 +54,6 @@ sell-no m k h = nth-sell (length (m .buys)) (length (m .sells)) (length (m .buys
 pub line-no : (m : Market) (l : ℕ) → item-no m (bids m + l) ≡ Line l
 line-no m l = nth-line (length (m .buys)) (length (m .sells)) (bids m + l) l refl
 
--- a step from node a to node b that costs c and gains g
 pub record Goes (m : Market) (s : Step) (a b c g : ℕ) : Type 0 where
   pub from : start m s ≡ a
   pub to : finish m s ≡ b
@@ -87,7 +85,6 @@ pub worth-some : (m : Market) (r : Option ℕ) → 0 < worth-at m r → (k : ℕ
 worth-some m None some = absurd (omega arith)
 worth-some m (Some k) some = (k, refl)
 
--- a bid of zone z, numbered k, with a free step s that is worth c as a table has it
 pub record Found (m : Market) (o : Outcome) (s : Step) (z k c : ℕ) : Type 0 where
   pub below : k < bids m
   pub zone : zone-of m (item-no m k) ≡ z
@@ -97,7 +94,8 @@ pub record Found (m : Market) (o : Outcome) (s : Step) (z k c : ℕ) : Type 0 wh
 module _ (m : Market) (o : Outcome) (z : ℕ) where
   pub taker-found : (k : ℕ) → taker m o z ≡ Some k → Found m o (taking (item-no m k)) z k (own m o z)
   taker-found k some =
-      let chosen = best-some (takes m o z) (dearer m) (strict-higher (λ j. price-of m (item-no m j))) (bids m) k some in
+      let strict = strict-higher (λ j. price-of m (item-no m j)) in
+      let chosen = best-some (takes m o z) (dearer m) strict (bids m) k some in
       let tests = and-parts _ _ (chosen .fit) in
       let numbers = bid-numbered m k (chosen .below) in
       record {
@@ -110,7 +108,8 @@ module _ (m : Market) (o : Outcome) (z : ℕ) where
   pub giver-found :
       (k : ℕ) → giver m o z ≡ Some k → Found m o (giving (item-no m k)) z k (worth-at m (giver m o z))
   giver-found k some =
-      let chosen = best-some (gives m o z) (cheaper m) (strict-lower (λ j. price-of m (item-no m j))) (bids m) k some in
+      let strict = strict-lower (λ j. price-of m (item-no m j)) in
+      let chosen = best-some (gives m o z) (cheaper m) strict (bids m) k some in
       let tests = and-parts _ _ (chosen .fit) in
       let numbers = bid-numbered m k (chosen .below) in
       record {
@@ -141,3 +140,25 @@ module _ (m : Market) (o : Outcome) (z : ℕ) where
       let (k, found) = best-found (gives m o z) (cheaper m) strict (bids m) j below on in
       let chosen = best-some (gives m o z) (cheaper m) strict (bids m) k found in
       omega (arith, ltb-false _ _ (chosen .unbeaten j below on), ap (worth-at m) found)
+
+  -- where no bid's price is above c, neither is what takers and givers are worth, as tables have it
+  pub own-limit : (c : ℕ) → ((k : ℕ) → k < bids m → price-of m (item-no m k) ≤ c) → own m o z ≤ suc c
+  own-limit c limit =
+      elim (cases-lt 0 (own m o z)) [
+        | inl some ↦
+            let (k, taken) = worth-some m (taker m o z) some in
+            let found = taker-found k taken in
+            omega (arith, found .worth, limit k (found .below))
+        | inr none ↦ omega arith
+      ]
+
+  pub ask-limit :
+      (c : ℕ) → ((k : ℕ) → k < bids m → price-of m (item-no m k) ≤ c) → worth-at m (giver m o z) ≤ suc c
+  ask-limit c limit =
+      elim (cases-lt 0 (worth-at m (giver m o z))) [
+        | inl some ↦
+            let (k, given) = worth-some m (giver m o z) some in
+            let found = giver-found k given in
+            omega (arith, found .worth, limit k (found .below))
+        | inr none ↦ omega arith
+      ]

@@ -15,8 +15,10 @@ use Rattle.hour.specs.Total.{total}
 use Rattle.hour.proofs.Total.{total-le, total-tight}
 use Rattle.paths.specs.Keys.{key, keys, higher, Raises, Keyed, left}
 
-suc-add : (k : ℕ) → suc k ≡ k + 1
-suc-add k = omega arith
+suc-mul : (k c : ℕ) → suc k * c ≡ k * c + c
+suc-mul k c =
+    let next : suc k ≡ k + 1 = omega arith in
+    omega (arith, ap (λ j. j * c) next, add-mul k 1 c, one-mul c)
 
 -- sums of parts in order, one of them strictly
 total-lt :
@@ -28,14 +30,7 @@ total-lt n k f g le h less =
 total-limit : (n c : ℕ) (f : ℕ → ℕ) → ((k : ℕ) → k < n → f k ≤ c) → total n f ≤ n * c
 total-limit zero c f le = omega arith
 total-limit (suc n) c f le =
-    omega (
-      arith,
-      total-limit n c f (λ k h. le k (omega arith)),
-      le n (omega arith),
-      add-mul n 1 c,
-      one-mul c,
-      ap (λ j. j * c) (suc-add n),
-    )
+    omega (arith, total-limit n c f (λ k h. le k (omega arith)), le n (omega arith), suc-mul n c)
 
 -- one mark for a number that is higher
 mark-le : (a b c d : ℕ) → (a < b → c < d) → cond (ltb a b) 1 0 ≤ cond (ltb c d) 1 0
@@ -85,7 +80,7 @@ pub keyed-start :
 keyed-start n top worth far worth-long far-long most none =
     record { worth-long = worth-long; far-long = far-long; most = most; passed = λ v h. omega (arith, none v h) }
 
--- Idea: the raised label's key is one below that of w, so w and all above w are above v; for others no key above falls.
+-- Idea: the raised label's key is one below that of w, so w and all above w are above v; for others no key falls.
 module _
     (n top : ℕ) (worth far : List ℕ) (v w : ℕ) (k : Keyed n top worth far) (v-below : v < n) (w-below : w < n)
     (raises : Raises worth far v w)
@@ -132,8 +127,16 @@ module _
     rises-here : before v < after v
     rises-here =
         elim raises [
-          | inl l ↦ omega (arith, next-here, far-below n top worth far k w w-below, mul-le-mul-right (n + 1) l, add-mul (at worth v) 1 (n + 1), one-mul (n + 1), ap (λ x. x * (n + 1)) (suc-add (at worth v)))
-          | inr both ↦ omega (arith, next-here, far-below n top worth far k v v-below, ap (λ x. x * (n + 1)) (both .0))
+          | inl l ↦
+              omega (
+                arith,
+                next-here,
+                far-below n top worth far k w w-below,
+                mul-le-mul-right (n + 1) l,
+                suc-mul (at worth v) (n + 1),
+              )
+          | inr (same, nearer) ↦
+              omega (arith, next-here, far-below n top worth far k v v-below, ap (λ x. x * (n + 1)) same)
         ]
 
     rises : (u : ℕ) → before u ≤ after u
@@ -164,12 +167,13 @@ module _
 
     passed-there : (u : ℕ) → u < n → u ≢ v → at far′ u ≤ higher n after (after u)
     passed-there u h ne =
+        let same = same-there u ne in
         omega (
           arith,
           far-there u ne,
           k .passed u h,
           total-le n (λ j. cond (ltb (before u) (before j)) 1 0) (λ j. cond (ltb (after u) (after j)) 1 0)
-              (λ j l. mark-le (before u) (before j) (after u) (after j) (λ less. omega (arith, rises j, same-there u ne))),
+              (λ j l. mark-le (before u) (before j) (after u) (after j) (λ h. omega (arith, rises j, same))),
         )
 
     pub keyed-raised : Keyed n top worth′ far′

@@ -1,9 +1,9 @@
 -- Laws of labels: no way beats one, they are unique, and a line leads on along each way. Assumes nothing.
-use mathlib.Core.Bool.{Bool, true, false, _&&_, _||_}
+use mathlib.Core.Bool.{true, _&&_}
 use mathlib.Core.List.{List}
-use mathlib.Core.Logic.{_⊎_, inl, inr}
+use mathlib.Core.Logic.{inl, inr}
 use mathlib.Core.Path.{_≡_, refl, sym, ap, subst, subst⁻¹, _∙_}
-use Prim.Native.Nat.{ℕ, zero, suc, _≤_, _<_}
+use Prim.Native.Nat.{ℕ, zero, suc, _<_}
 use native.Mathlib.Omega.{arith}
 use lib.Dec.{eqb, ltb}
 use lib.ListN.{length}
@@ -56,23 +56,21 @@ pub record Ahead (m : Market) (o : Outcome) (worth far : List ℕ) (v k l : ℕ)
 
 -- what the test for a line that leads on says
 module _ (m : Market) (o : Outcome) (worth far : List ℕ) (v : ℕ) where
-  near-from : (w k : ℕ) → at far v ≡ suc k → at worth w ≡ at worth v → at far w ≡ k → nearer worth far v w ≡ true
-  near-from w k is same near = and-from _ _ (eq-eqb _ _ same) (eq-eqb _ _ (omega arith))
-
   pub ahead-onward : (k l : ℕ) → at far v ≡ suc k → Ahead m o worth far v k l → onward m o worth far v l ≡ true
   ahead-onward k l is ahead =
       elim (ahead .over) [
-        | inl leads ↦
-            or-left _ _
-            (and-from _ _ (eq-eqb _ _ (leads .from))
-            (and-from _ _ (lt-ltb _ _ (leads .free .room))
-            (near-from _ k is (ap (at worth) (leads .to) ∙ ahead .as-much) (ap (at far) (leads .to) ∙ ahead .one-less))))
-        | inr leads ↦
-            or-right _ _
-            (and-from _ _ (eq-eqb _ _ (leads .from))
-            (and-from _ _ (lt-ltb _ _ (leads .free .room))
-            (near-from _ k is (ap (at worth) (leads .to) ∙ ahead .as-much) (ap (at far) (leads .to) ∙ ahead .one-less))))
+        | inl leads ↦ or-left _ _ (test (Forward (Line l)) leads)
+        | inr leads ↦ or-right _ _ (test (Backward (Line l)) leads)
       ]
+    where
+      test :
+          (s : Step) → Leads m o v (ahead .zone) s →
+          (eqb (start m s) v && (ltb 0 (room m o s) && nearer worth far v (finish m s))) ≡ true
+      test s leads =
+          let same = eq-eqb _ _ (ap (at worth) (leads .to) ∙ ahead .as-much) in
+          let near = eq-eqb _ _ (ap (λ w. suc (at far w)) (leads .to) ∙ ap suc (ahead .one-less) ∙ sym is) in
+          and-from _ _ (eq-eqb _ _ (leads .from))
+          (and-from _ _ (lt-ltb _ _ (leads .free .room)) (and-from _ _ same near))
 
   -- the step s leads on from zone v
   pub record Onward (s : Step) : Type 0 where
@@ -141,8 +139,7 @@ module _ (m : Market) (o : Outcome) (worth far : List ℕ) (proper : Proper m) (
   pub way-ahead :
       (v k : ℕ) → v < m .zones → 0 < at worth v → at far v ≡ suc k → (l : ℕ) × Ahead m o worth far v k l
   way-ahead v k below some is =
-      let way : Along m o (suc k) v (at worth v) = subst (λ x. Along m o x v (at worth v)) is (best .way v below some) in
-      let (l, w, over, rest) = way in
+      let (l, w, over, rest) = subst (λ x. Along m o x v (at worth v)) is (best .way v below some) in
       let joins = over-joins m o l v w proper over in
       let there = along-no-better k w (at worth v) (joins .to) rest some in
       let here = best .over l v w below (joins .to) over (omega (arith, there .worth)) in

@@ -5,8 +5,8 @@ use Prim.Native.Nat.{ℕ, _<_}
 use native.Mathlib.Omega.{arith}
 use lib.ListN.{length}
 use Rattle.std.proofs.shelf.Lists.{ext-getD}
-use Rattle.hour.specs.Market.{Market, Outcome, Proper, at}
-use Rattle.paths.specs.Plan.{Plan, Planned, out-no}
+use Rattle.hour.specs.Market.{at}
+use Rattle.paths.specs.Plan.{out-no}
 use Rattle.paths.specs.Promises.{One-plan}
 use Rattle.paths.proofs.Labels.{labels-agree}
 

@@ -1,21 +1,20 @@
--- What tables show: where no zone pays, the labels are the lowest prices; else a closed way that gains. Assumes nothing.
-use mathlib.Core.Bool.{Bool, true, false}
+-- What tables show: where no zone pays, the lowest prices; else a closed way that gains. Assumes nothing.
+use mathlib.Core.Bool.{false}
 use mathlib.Core.List.{List, [], _∷_}
-use mathlib.Core.Logic.{_⊎_, inl, inr}
-use mathlib.Core.Path.{_≡_, refl, sym, ap, subst, subst⁻¹, _∙_}
+use mathlib.Core.Logic.{inl, inr}
+use mathlib.Core.Path.{_≡_, refl, ap, _∙_}
 use Prim.Native.Nat.{ℕ, _+_, _-_, _≤_, _<_}
 use native.Mathlib.Omega.{arith}
 use lib.Dec.{ltb}
-use lib.ListN.{length}
 use Rattle.std.specs.shelf.Lists.{All}
 use Rattle.std.proofs.shelf.Lists.{getD-map}
 use Rattle.std.proofs.shelf.Tests.{cases-lt, and-cases, ltb-false}
 use Rattle.std.specs.declared.option.Option.{Option}
 use Rattle.std.specs.declared.option.Option.the-variants.{Some, None}
 use Rattle.hour.proofs.First.{when-none, first-none}
-use Rattle.hour.specs.Market.{Market, Outcome, Proper, Feasible, at}
+use Rattle.hour.specs.Market.{Market, Outcome, Proper, at}
 use Rattle.network.specs.Network.{hub, price}
-use Rattle.network.specs.Ways.{Free, Links, start, finish, step-cost, step-gain, way-cost, way-gain, Resting, Reached}
+use Rattle.network.specs.Ways.{Free, Links, start, finish, step-cost, step-gain, Resting, Reached}
 use Rattle.network.specs.declared.arcs.Step.{Step}
 use Rattle.network.proofs.Market.{price-zone, price-hub}
 use Rattle.network.proofs.Rest.{free-way-le, at-rest}

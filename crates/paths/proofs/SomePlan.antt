@@ -1,8 +1,7 @@
 -- Every outcome has tables that a search would leave. Assumes nothing.
-use mathlib.Core.Bool.{Bool}
 use mathlib.Core.List.{List}
 use mathlib.Core.Logic.{_⊎_, inl, inr}
-use mathlib.Core.Path.{_≡_, refl, sym, ap, subst⁻¹, subst₂}
+use mathlib.Core.Path.{_≡_, subst⁻¹}
 use Prim.Native.Nat.{ℕ, zero, suc, _+_, _≤_, _<_}
 use native.Mathlib.Omega.{arith}
 use lib.ListN.{length, set}
@@ -13,18 +12,21 @@ use Rattle.hour.specs.Market.{Market, Outcome, Proper, at}
 use Rattle.hour.specs.Total.{total}
 use Rattle.hour.proofs.Total.{total-part}
 use Rattle.network.specs.Network.{Among}
-use Rattle.network.specs.Ways.{Free, room, item, start, finish}
+use Rattle.network.specs.Ways.{room, item, start, finish}
 use Rattle.network.specs.declared.arcs.Item.the-variants.{Line}
 use Rattle.network.specs.declared.arcs.Step.{Step}
 use Rattle.network.specs.declared.arcs.Step.the-variants.{Forward, Backward}
 use Rattle.paths.specs.Best.{numbered}
 use Rattle.paths.specs.Bids.{own, giver, worth-at}
-use Rattle.paths.specs.Labels.{Leads, Over, Best-labels}
-use Rattle.paths.specs.Plan.{Plan, Planned, out-no}
+use Rattle.paths.specs.Labels.{Over, Best-labels}
+use Rattle.paths.specs.Plan.{out-no}
 use Rattle.paths.specs.Promises.{Some-plan}
-use Rattle.paths.proofs.Keys.{Raises, left, left-falls}
+use Rattle.paths.specs.Keys.{Raises, left}
+use Rattle.paths.proofs.Keys.{left-falls}
 use Rattle.paths.proofs.Labels.{over-joins}
-use Rattle.paths.proofs.Raising.{Reaching, Settled-labels, reaching-start, reaching-raised, best-settled}
+use Rattle.paths.proofs.Raising.{Reaching, Step-raises, Unraised, reaching-start, reaching-raised}
+use Rattle.paths.proofs.Raising.{unraised-line, best-unraised}
+use Rattle.paths.proofs.Steps.{over-forward, over-backward}
 
 -- one below n for which P holds, or Q for all
 one-below :
@@ -36,7 +38,9 @@ one-below P Q (suc n) decide =
       | inr off ↦
           elim (one-below P Q n (λ k below. decide k (omega arith))) [
             | inl found ↦ inl found
-            | inr none ↦ inr (λ k below. elim (cases-eq k n) [ inl e ↦ subst⁻¹ Q e off | inr ne ↦ none k (omega arith) ])
+            | inr none ↦
+                inr (λ k below.
+                elim (cases-eq k n) [ inl e ↦ subst⁻¹ Q e off | inr ne ↦ none k (omega arith) ])
           ]
     ]
 
@@ -48,9 +52,6 @@ record Raised (m : Market) (o : Outcome) (worth far : List ℕ) (l : ℕ) : Type
   some : 0 < at worth to
   raises : Raises worth far from to
 
-abbrev Unraised : Market → Outcome → List ℕ → List ℕ → ℕ → Type 0
-Unraised m o worth far l = (v w : ℕ) → Over m o l v w → 0 < at worth w → Raises worth far v w → ⊥
-
 module _ (m : Market) (o : Outcome) (worth far : List ℕ) where
   cases-raises : (v w : ℕ) → Raises worth far v w ⊎ (Raises worth far v w → ⊥)
   cases-raises v w =
@@ -59,28 +60,21 @@ module _ (m : Market) (o : Outcome) (worth far : List ℕ) where
         | inr le ↦
             elim (cases-eq (at worth v) (at worth w)) [
               | inl same ↦
-                  elim (cases-lt (at far w + 1) (at far v)) [
-                    | inl nearer ↦ inl (inr (same, nearer))
-                    | inr far ↦ inr (λ r. omega (arith, r))
-                  ]
+                  elim (cases-lt (at far w + 1) (at far v))
+                  [ inl nearer ↦ inl (inr (same, nearer)) | inr further ↦ inr (λ r. omega (arith, r)) ]
               | inr ne ↦ inr (λ r. omega (arith, r))
             ]
       ]
 
-  -- a step is free and raises a label, or one of both is not so
-  record Step-raises (s : Step) : Type 0 where
-    free : Free m o s
-    some : 0 < at worth (finish m s)
-    raises : Raises worth far (start m s) (finish m s)
-
-  cases-step : (s : Step) → Among m (item s) → Step-raises s ⊎ (Step-raises s → ⊥)
+  cases-step : (s : Step) → Among m (item s) → Step-raises m o worth far s ⊎ (Step-raises m o worth far s → ⊥)
   cases-step s among =
       elim (cases-lt 0 (room m o s)) [
         | inl free ↦
             elim (cases-lt 0 (at worth (finish m s))) [
               | inl some ↦
                   elim (cases-raises (start m s) (finish m s)) [
-                    | inl raises ↦ inl (record { free = record { among = among; room = free }; some = some; raises = raises })
+                    | inl more ↦
+                        inl (record { free = record { among = among; room = free }; some = some; raises = more })
                     | inr off ↦ inr (λ r. off (r .raises))
                   ]
               | inr none ↦ inr (λ r. omega (arith, r .some))
@@ -88,28 +82,19 @@ module _ (m : Market) (o : Outcome) (worth far : List ℕ) where
         | inr full ↦ inr (λ r. omega (arith, r .free .room))
       ]
 
-  leads-raises : (s : Step) (v w : ℕ) → Leads m o v w s → 0 < at worth w → Raises worth far v w → Step-raises s
-  leads-raises s v w leads some raises =
-      record {
-        free = leads .free;
-        some = omega (arith, some, ap (at worth) (leads .to));
-        raises = subst₂ (λ x y. Raises worth far x y) (sym (leads .from)) (sym (leads .to)) raises;
-      }
+  raised-over :
+      {l v w : ℕ} → Over m o l v w → 0 < at worth w → Raises worth far v w → Raised m o worth far l
+  raised-over {l} {v} {w} over some raises =
+      record { from = v; to = w; over = over; some = some; raises = raises }
 
   cases-line : (l : ℕ) → l < length (m .lines) → Raised m o worth far l ⊎ Unraised m o worth far l
   cases-line l below =
       elim (cases-step (Forward (Line l)) below) [
-        | inl r ↦
-            inl (record { from = _; to = _; over = inl (record { free = r .free; from = refl; to = refl }); some = r .some; raises = r .raises })
+        | inl r ↦ inl (raised-over (over-forward m o l (r .free)) (r .some) (r .raises))
         | inr ahead ↦
             elim (cases-step (Backward (Line l)) below) [
-              | inl r ↦
-                  inl (record { from = _; to = _; over = inr (record { free = r .free; from = refl; to = refl }); some = r .some; raises = r .raises })
-              | inr back ↦
-                  inr (λ v w over some raises. elim over [
-                    | inl leads ↦ ahead (leads-raises (Forward (Line l)) v w leads some raises)
-                    | inr leads ↦ back (leads-raises (Backward (Line l)) v w leads some raises)
-                  ])
+              | inl r ↦ inl (raised-over (over-backward m o l (r .free)) (r .some) (r .raises))
+              | inr back ↦ inr (unraised-line m o worth far l ahead back)
             ]
       ]
 
@@ -137,12 +122,10 @@ labelled m o top (suc n) worth far proper r enough =
           (reaching-raised m o top worth far l v w proper r (raised .over) (raised .some) (raised .raises))
           (omega (arith, falls))
       | inr none ↦
-          let settled : Settled-labels m o worth far =
-          λ l v w over. none l (over-joins m o l v w proper over .number) v w over in
           record {
             worth = worth;
             far = far;
-            best = best-settled m o top worth far r settled;
+            best = best-unraised m o top worth far proper r none;
             worth-long = r .keyed .worth-long;
             far-long = r .keyed .far-long;
           }
@@ -175,21 +158,23 @@ some-plan m o proper =
     let labels = some-labels m o proper in
     let outs = out-no m o (labels .worth) (labels .far) in
     let asks : ℕ → ℕ = λ v. worth-at m (giver m o v) in
-    let givers : ℕ → ℕ = λ v. numbered (giver m o v) in
-    (record {
-      worth = labels .worth;
-      far = labels .far;
-      out = listed n outs;
-      ask = listed n asks;
-      giver = listed n givers;
-    }, record {
-      labels = labels .best;
-      out = at-listed n outs;
-      ask = at-listed n asks;
-      giver = at-listed n givers;
-      worth-long = labels .worth-long;
-      far-long = labels .far-long;
-      out-long = length-listed n outs;
-      ask-long = length-listed n asks;
-      giver-long = length-listed n givers;
-    })
+    let givers : ℕ → ℕ = λ v. numbered (giver m o v) in (
+      record {
+        worth = labels .worth;
+        far = labels .far;
+        out = listed n outs;
+        ask = listed n asks;
+        giver = listed n givers;
+      },
+      record {
+        labels = labels .best;
+        out = at-listed n outs;
+        ask = at-listed n asks;
+        giver = at-listed n givers;
+        worth-long = labels .worth-long;
+        far-long = labels .far-long;
+        out-long = length-listed n outs;
+        ask-long = length-listed n asks;
+        giver-long = length-listed n givers;
+      },
+    )

@@ -8,7 +8,7 @@ use mathlib.Core.Path.{_≡_, refl, subst}
 use Prim.Native.Nat.{ℕ, suc, _+_, _≤_, _<_}
 use native.Mathlib.Omega.{arith}
 use lib.ListN.{length}
-use Rattle.hour.specs.Market.{Market, Outcome, Proper}
+use Rattle.hour.specs.Market.{Market, Outcome, Proper, line}
 use Rattle.network.specs.Network.{hub}
 use Rattle.network.specs.Ways.{Free, room, start, finish, step-cost, step-gain}
 use Rattle.network.specs.declared.arcs.Item.{Item}
@@ -39,6 +39,17 @@ pub record Across (m : Market) (o : Outcome) (s : Step) : Type 0 where
   pub to : finish m s < m .zones
   pub costs : step-cost m s ≡ 0
   pub gains : step-gain m s ≡ 0
+
+-- a free step along a line leads over it
+pub over-forward :
+    (m : Market) (o : Outcome) (l : ℕ) → Free m o (Forward (Line l)) →
+    Over m o l (line (m .lines) l .from) (line (m .lines) l .to)
+over-forward m o l free = inl (record { free = free; from = refl; to = refl })
+
+pub over-backward :
+    (m : Market) (o : Outcome) (l : ℕ) → Free m o (Backward (Line l)) →
+    Over m o l (line (m .lines) l .to) (line (m .lines) l .from)
+over-backward m o l free = inr (record { free = free; from = refl; to = refl })
 
 module _ (m : Market) (o : Outcome) where
   item-most :
@@ -94,7 +105,7 @@ module _ (m : Market) (o : Outcome) where
   free-kinds proper (Forward (Line l)) f =
       inr (inr (record {
         number = l;
-        over = inl (record { free = f; from = refl; to = refl });
+        over = over-forward m o l f;
         from = proper .from l (f .among);
         to = proper .to l (f .among);
         costs = refl;
@@ -103,7 +114,7 @@ module _ (m : Market) (o : Outcome) where
   free-kinds proper (Backward (Line l)) f =
       inr (inr (record {
         number = l;
-        over = inr (record { free = f; from = refl; to = refl });
+        over = over-backward m o l f;
         from = proper .to l (f .among);
         to = proper .from l (f .among);
         costs = refl;

@@ -1,19 +1,18 @@
 -- The ways that tables show: from each zone to the hub, and closed through a zone that pays. Assumes nothing.
 --
---   Way-of m o t k v    the way of k lines that t shows from zone v: it leads to the hub through what is free, costs nothing,
---                       gains what the label says, and leaves zones only, each with fewer lines to go than the one before
-use mathlib.Core.Bool.{Bool, true, cond}
-use mathlib.Core.List.{List, [], _∷_}
-use mathlib.Core.Logic.{_≢_, inl, inr}
-use mathlib.Core.Path.{_≡_, refl, sym, ap, subst, subst⁻¹, _∙_}
+--   Way-of m o t k v    the way of k lines that t shows from zone v: it leads to the hub through what is free, costs
+--                       nothing, gains what the label says, and leaves zones only, each nearer the hub than the last
+use mathlib.Core.Bool.{true}
+use mathlib.Core.List.{List, _∷_}
+use mathlib.Core.Logic.{_≢_}
+use mathlib.Core.Path.{_≡_, refl, ap, subst, subst⁻¹, _∙_}
 use Prim.Native.Nat.{ℕ, zero, suc, _+_, _-_, _≤_, _<_}
 use native.Mathlib.Omega.{arith}
-use lib.Dec.{eqb, ltb}
+use lib.Dec.{eqb}
 use lib.ListN.{length}
 use Rattle.std.specs.shelf.Lists.{All}
 use Rattle.std.proofs.shelf.Elements.{all-weaker}
 use Rattle.std.proofs.shelf.Tests.{and-parts, ltb-true, cond-true, cond-false, cond-both, eq-eqb, ne-eqb}
-use Rattle.hour.specs.First.{when, first}
 use Rattle.hour.specs.Market.{Market, Outcome, Proper, at, line}
 use Rattle.network.specs.Network.{hub}
 use Rattle.network.specs.Ways.{Free, Links, Once, start, finish, step-cost, step-gain, way-cost, way-gain}
@@ -22,15 +21,15 @@ use Rattle.network.specs.declared.arcs.Item.the-variants.{Buy, Sell, Line}
 use Rattle.network.specs.declared.arcs.Step.{Step}
 use Rattle.network.specs.declared.arcs.Step.the-variants.{Forward, Backward}
 use Rattle.paths.specs.Best.{numbered}
-use Rattle.paths.specs.Bids.{bids, item-no, taking, giving, price-of, zone-of, taker, giver, own, worth-at}
+use Rattle.paths.specs.Bids.{bids, item-no, taking, giving, taker, giver, own}
 use Rattle.paths.specs.Labels.{Along}
-use Rattle.paths.specs.Plan.{Plan, Planned, pays, onward, line-no, out-no, step-out, out-step, way-out, closed-way}
+use Rattle.paths.specs.Plan.{Plan, Planned, pays, onward, line-no, step-out, out-step, way-out}
 use Rattle.paths.specs.Promises.{Way-shown, Pays-off}
 use Rattle.paths.proofs.Best.{first-passing, first-passes}
-use Rattle.paths.proofs.Bids.{Is-bid, Goes, Found, bid-numbered, taking-goes, giving-goes, taker-found, giver-found}
+use Rattle.paths.proofs.Bids.{Is-bid, Goes, bid-numbered, taking-goes, giving-goes, taker-found, giver-found}
 use Rattle.paths.proofs.Bids.{worth-some}
 use Rattle.paths.proofs.Bids as items
-use Rattle.paths.proofs.Labels.{Onward, over-joins, onward-some, onward-out}
+use Rattle.paths.proofs.Labels.{onward-some, onward-out}
 
 -- out of a zone along a bid is to the hub
 step-out-bid : (m : Market) (v : ℕ) (i : Item) → Is-bid i → step-out m v i ≡ taking i
@@ -72,9 +71,9 @@ pub record Next (m : Market) (o : Outcome) (t : Plan) (v : ℕ) (s : Step) : Typ
 module _ (m : Market) (o : Outcome) (t : Plan) (proper : Proper m) (p : Planned m o t) where
   last-step : (v : ℕ) → v < m .zones → 0 < at (t .worth) v → at (t .far) v ≡ 0 → Last m o t v (out-step m t v)
   last-step v below some near =
-      let own : own m o v ≡ at (t .worth) v =
+      let is-own : own m o v ≡ at (t .worth) v =
       subst (λ x. Along m o x v (at (t .worth) v)) near (p .labels .way v below some) in
-      let (k, taken) = worth-some m (taker m o v) (omega (arith, own)) in
+      let (k, taken) = worth-some m (taker m o v) (omega (arith, is-own)) in
       let found = taker-found m o v k taken in
       let is-bid = bid-numbered m k (found .below) .bid in
       let goes = taking-goes m (item-no m k) is-bid in
@@ -136,7 +135,7 @@ module _ (m : Market) (o : Outcome) (t : Plan) (proper : Proper m) (p : Planned 
     pub leaves : All (Leaves k) (way-out m t k v)
     pub once : Once m (way-out m t k v)
 
-  -- Idea: the way's first step is the table's; the rest is the way of the next zone, whose zones have fewer lines to go.
+  -- Idea: the way's first step is the table's; the rest is the way of the next zone, and has fewer lines to go.
   pub way-of : (k v : ℕ) → v < m .zones → 0 < at (t .worth) v → at (t .far) v ≡ k → Way-of k v
   way-of zero v below some far =
       let s = last-step v below some far in

@@ -4,8 +4,8 @@
 --   keys                 all keys of n zones together; every raise adds to it
 --   higher               how many of n keys are higher than a given one
 --   Raises worth far v w zone w, over one line more, is better than what zone v has
---   Keyed n top          no label is worth more than top, and each zone has as many zones with a higher key as its way has
---                        lines; so no way has n lines
+--   Keyed n top          no label is worth more than top, and each zone's way has at most as many lines as there are
+--                        zones with a higher key; so no way has n lines
 --   left                 what the keys have yet to grow at most
 use mathlib.Core.Bool.{cond}
 use mathlib.Core.List.{List}
