@@ -80,7 +80,7 @@ module _
             let from-is = ap (λ (x : Line). x .from) is in
             let to-is = ap (λ (x : Line). x .to) is in
             let done =
-            raise-done t o worth far worth′ far′ l (ln .from) (ln .to) rose settling from-below to-below
+            raise-done t o worth far worth′ far′ l (ln .from) (ln .to) rose (sound .proper) settling from-below to-below
             (inl (record { free = forward-free room; from = sym from-is; to = sym to-is }))
             answer new-worth new-far
             in (
@@ -100,7 +100,7 @@ module _
             let from-is = ap (λ (x : Line). x .from) is in
             let to-is = ap (λ (x : Line). x .to) is in
             let done =
-            raise-done t o worth far worth′ far′ l (ln .to) (ln .from) rose settling to-below from-below
+            raise-done t o worth far worth′ far′ l (ln .to) (ln .from) rose (sound .proper) settling to-below from-below
             (inr (record { free = backward-free some-flow; from = sym to-is; to = sym from-is }))
             answer new-worth new-far
             in (

@@ -5,12 +5,12 @@ pub mod Looked
 pub mod Steps
 pub mod Keys
 pub mod Labels
-pub mod Raised
-pub mod Ends
-pub mod Rounds
 pub mod OnePlan
 pub mod WaysOut
 pub mod Rings
 pub mod Shown
 pub mod Raising
+pub mod Raised
+pub mod Ends
+pub mod Rounds
 pub mod SomePlan

@@ -1,7 +1,5 @@
 -- Labels on the way to the best: a raise keeps them, and where no line raises one they are best. Assumes nothing.
 --
---   Reaching m o top worth far   each label above 0 is that of a free way, no own taker is better than its zone's
---                                label, and the labels are keyed (see Keys)
 --   Step-raises                  a free step that raises a label
 --   Unraised                     no step along a line does
 use mathlib.Core.List.{List}
@@ -19,15 +17,10 @@ use Rattle.network.specs.declared.arcs.Step.{Step}
 use Rattle.network.specs.declared.arcs.Step.the-variants.{Forward, Backward}
 use Rattle.paths.specs.Bids.{own}
 use Rattle.paths.specs.Labels.{Leads, Over, Along, No-better, Best-labels}
-use Rattle.paths.specs.Keys.{Raises, Keyed}
+use Rattle.paths.specs.Keys.{Raises}
+use Rattle.paths.specs.Search.{Reaching}
 use Rattle.paths.proofs.Keys.{keyed-start, keyed-raised}
 use Rattle.paths.proofs.Labels.{Joins, over-joins}
-
-pub record Reaching (m : Market) (o : Outcome) (top : ℕ) (worth far : List ℕ) : Type 0 where
-  pub keyed : Keyed (m .zones) top worth far
-  pub way : (v : ℕ) → v < m .zones → 0 < at worth v → Along m o (at far v) v (at worth v)
-  pub none : (v : ℕ) → v < m .zones → at worth v ≡ 0 → at far v ≡ 0
-  pub own : (v : ℕ) → v < m .zones → 0 < own m o v → No-better (own m o v) 0 (at worth v) (at far v)
 
 -- each zone's own taker, over no line
 pub reaching-start :

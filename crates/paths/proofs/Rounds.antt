@@ -72,9 +72,9 @@ module _ (t : Tables) (o : Amounts) (worth far : List ℕ) where
       Best-labels (market-given t) (outcome-given o) worth far
   best-at-rest settling relaxed =
       record {
-        way = settling .labelled .way;
-        none = settling .labelled .none;
-        own = settling .labelled .own;
+        way = settling .way;
+        none = settling .none;
+        own = settling .own;
         over = λ l v w v-below w-below over some.
             elim over [
               | inl leads ↦ relaxed l (line-in l (leads .free .among)) .0 v w leads some

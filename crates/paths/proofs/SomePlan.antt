@@ -24,7 +24,8 @@ use Rattle.paths.specs.Promises.{Some-plan}
 use Rattle.paths.specs.Keys.{Raises, left}
 use Rattle.paths.proofs.Keys.{left-falls}
 use Rattle.paths.proofs.Labels.{over-joins}
-use Rattle.paths.proofs.Raising.{Reaching, Step-raises, Unraised, reaching-start, reaching-raised}
+use Rattle.paths.specs.Search.{Reaching}
+use Rattle.paths.proofs.Raising.{Step-raises, Unraised, reaching-start, reaching-raised}
 use Rattle.paths.proofs.Raising.{unraised-line, best-unraised}
 use Rattle.paths.proofs.Steps.{over-forward, over-backward}
 

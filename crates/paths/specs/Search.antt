@@ -9,7 +9,8 @@
 --   Looks t o n b ..       what is seen of the bid with number n
 --   noted wins ok ws xs z new x   xs with x in place z, if ok and the worth `new` wins over the one that ws has there
 --   rises worth far v w    the way over a line from v to w is better than the one that v has
---   Labelled m o worth far each label is that of a way, and none is below the zone's own taker
+--   Reaching m o top worth far   each label above 0 is that of a free way, no own taker is better than its zone's label, and
+--                          the labels are keyed (see Keys)
 --   Relaxed m o worth far l   line l, forward or backward, raises no label
 --   Settling, Raised       what holds of labels while they are raised; what raising some of them keeps
 use mathlib.Core.Bool.{Bool, cond, _&&_, _||_}
@@ -94,7 +95,8 @@ rises worth far v w =
     ltb (at worth v) (at worth w)
     || (eqb (at worth v) (at worth w) && (ltb 0 (at worth w) && ltb (suc (at far w)) (at far v)))
 
-pub record Labelled (m : Market) (o : Outcome) (worth far : List ℕ) : Type 0 where
+pub record Reaching (m : Market) (o : Outcome) (top : ℕ) (worth far : List ℕ) : Type 0 where
+  pub keyed : Keyed (m .zones) top worth far
   pub way : (v : ℕ) → v < m .zones → 0 < at worth v → Along m o (at far v) v (at worth v)
   pub none : (v : ℕ) → v < m .zones → at worth v ≡ 0 → at far v ≡ 0
   pub own : (v : ℕ) → v < m .zones → 0 < own m o v → No-better (own m o v) 0 (at worth v) (at far v)
@@ -116,9 +118,8 @@ turned from-last n j = cond from-last (n - 1 - j) j
 abbrev pub top : ℕ
 top = 2 ^ 32
 
-pub record Settling (t : Tables) (o : Amounts) (worth far : List ℕ) : Type 0 where
-  pub labelled : Labelled (market-given t) (outcome-given o) worth far
-  pub keyed : Keyed (t .zones) top worth far
+abbrev pub Settling : Tables → Amounts → List ℕ → List ℕ → Type 0
+Settling t o worth far = Reaching (market-given t) (outcome-given o) top worth far
 
 -- from one pair of tables to another by raising so many labels
 pub record Raised (t : Tables) (o : Amounts) (worth far : List ℕ) (rose : ℕ) (worth′ far′ : List ℕ) : Type 0 where
