@@ -1,3 +1,4 @@
 pub mod Sweep
 pub mod Run
 pub mod Promises
+pub mod Given

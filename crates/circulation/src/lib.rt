@@ -1,2 +1,3 @@
 // Pushes along closed ways that pay, until none does.
 pub mod promises;
+mod steps;

@@ -8,8 +8,12 @@ pub use arcs::Item;
 pub use arcs::Step;
 pub use tables::Amounts;
 pub use tables::Tables;
+pub use tables::bid_at;
 pub use tables::bid_in;
+pub use tables::item_at;
+pub use tables::line_at;
 pub use tables::line_in;
+pub use tables::number_at;
 
 #[cfg(test)]
 mod tests;

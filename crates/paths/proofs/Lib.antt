@@ -13,4 +13,6 @@ pub mod Raising
 pub mod Raised
 pub mod Ends
 pub mod Rounds
+pub mod Exits
+pub mod Searched
 pub mod SomePlan

@@ -64,8 +64,11 @@ pub record Planned (m : Market) (o : Outcome) (t : Plan) : Type 0 where
   pub ask-long : length (t .ask) ≡ m .zones
   pub giver-long : length (t .giver) ≡ m .zones
 
+abbrev pub asks-less : List ℕ → List ℕ → ℕ → Bool
+asks-less worth ask v = ltb 0 (at ask v) && ltb (at ask v) (at worth v)
+
 abbrev pub pays : Plan → ℕ → Bool
-pays t v = ltb 0 (at (t .ask) v) && ltb (at (t .ask) v) (at (t .worth) v)
+pays t v = asks-less (t .worth) (t .ask) v
 
 -- the step along an item out of zone v
 abbrev pub step-out : Market → ℕ → Item → Step

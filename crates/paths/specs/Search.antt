@@ -1,6 +1,7 @@
 -- What holds while a search goes on. Assumes nothing: these are definitions.
 --
---   market-given t         the market that tables hold; outcome-given o the outcome that lists of amounts hold
+--   market-given t         the market that tables hold; outcome-given o the outcome that lists of amounts hold; plan-in the
+--                          plan that five tables hold
 --   Sound t o              the tables are those of a proper market, small enough to count in 64 bits, with an amount for each
 --                          bid and a flow for each line
 --   Long zones ..          tables with a number for each zone
@@ -32,12 +33,16 @@ use Rattle.paths.specs.Best.{best, numbered}
 use Rattle.paths.specs.Bids.{item-no, zone-of, price-of, takes, gives, dearer, cheaper, worth-at, own}
 use Rattle.paths.specs.Keys.{Keyed, left}
 use Rattle.paths.specs.Labels.{Along, Leads, No-better}
+use Rattle.paths.specs.Plan.{Plan}
 
 abbrev pub market-given : Tables → Market
 market-given t = market-in (t .zones) (now (t .buys)) (now (t .sells)) (now (t .lines))
 
 abbrev pub outcome-given : Amounts → Outcome
 outcome-given o = outcome-in (now (o .bought)) (now (o .sold)) (now (o .flow))
+
+abbrev pub plan-in : List ℕ → List ℕ → List ℕ → List ℕ → List ℕ → Plan
+plan-in worth far out ask giver = record { worth = worth; far = far; out = out; ask = ask; giver = giver }
 
 pub record Sound (t : Tables) (o : Amounts) : Type 0 where
   pub proper : Proper (market-given t)

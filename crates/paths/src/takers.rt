@@ -64,7 +64,7 @@ fn look(
 }
 
 // Buys take what they have room for, and give what they have.
-fn look_at_buys(
+pub fn look_at_buys(
     t: Tables,
     o: Amounts,
     worth: &mut [u64],
@@ -98,7 +98,7 @@ fn look_at_buys(
 }
 
 // Sells take back what they have, and give what they have left.
-fn look_at_sells(
+pub fn look_at_sells(
     t: Tables,
     o: Amounts,
     worth: &mut [u64],

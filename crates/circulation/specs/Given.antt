@@ -1,0 +1,20 @@
+-- What lent tables and slices hold. Assumes nothing: these are definitions.
+--
+--   plan-given w      the plan that a search's tables hold
+--   Ready m t v       the closed way through zone v goes along items of the market, and leaves no node twice
+use Prim.Native.Nat.{ℕ}
+use denote.Ref.{now}
+use Rattle.std.specs.shelf.Lists.{All}
+use Rattle.hour.specs.Market.{Market}
+use Rattle.network.specs.Network.{Among}
+use Rattle.network.specs.Ways.{item, Once}
+use Rattle.paths.specs.Plan.{Plan, closed-way}
+use Rattle.paths.specs.Search.{plan-in}
+use Rattle.paths.specs.declared.search.Ways.{Ways}
+
+abbrev pub plan-given : Ways → Plan
+plan-given w = plan-in (now (w .worth)) (now (w .far)) (now (w .out)) (now (w .ask)) (now (w .giver))
+
+pub record Ready (m : Market) (t : Plan) (v : ℕ) : Type 0 where
+  pub among : All (λ s. Among m (item s)) (closed-way m t v)
+  pub once : Once m (closed-way m t v)
