@@ -9,3 +9,4 @@ pub mod Runs
 pub mod Always
 pub mod Calm
 pub mod Fall
+pub mod OnTables

@@ -1,3 +1,4 @@
 // Pushes along closed ways that pay, until none does.
 pub mod promises;
 mod steps;
+mod sweep;

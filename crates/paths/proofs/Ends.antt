@@ -43,10 +43,10 @@ module _
     below = rw (length-lines-in (now (t .lines))) within
 
     pub from-below : ln .from < t .zones
-    from-below = rw is (sound .proper .from l below)
+    from-below = rw is (sound .tables .proper .from l below)
 
     pub to-below : ln .to < t .zones
-    to-below = rw is (sound .proper .to l below)
+    to-below = rw is (sound .tables .proper .to l below)
 
     forward-free : at (now (o .flow)) l < ln .capacity → Free (market-given t) (outcome-given o) (Forward (items.Line l))
     forward-free room =
@@ -65,7 +65,7 @@ module _
           record {
             worth = (omega (arith, keyed .worth-long), omega (arith, keyed .worth-long));
             far =
-                (omega (arith, keyed .far-long), (omega (arith, keyed .far-long), omega (arith, near, sound .zones)));
+                (omega (arith, keyed .far-long), (omega (arith, keyed .far-long), omega (arith, near, sound .tables .zones)));
           }
 
       module _ (worth′ far′ : List ℕ) (rose : ℕ) where
@@ -80,7 +80,7 @@ module _
             let from-is = ap (λ (x : Line). x .from) is in
             let to-is = ap (λ (x : Line). x .to) is in
             let done =
-            raise-done t o worth far worth′ far′ l (ln .from) (ln .to) rose (sound .proper) settling from-below to-below
+            raise-done t o worth far worth′ far′ l (ln .from) (ln .to) rose (sound .tables .proper) settling from-below to-below
             (inl (record { free = forward-free room; from = sym from-is; to = sym to-is }))
             answer new-worth new-far
             in (
@@ -100,7 +100,7 @@ module _
             let from-is = ap (λ (x : Line). x .from) is in
             let to-is = ap (λ (x : Line). x .to) is in
             let done =
-            raise-done t o worth far worth′ far′ l (ln .to) (ln .from) rose (sound .proper) settling to-below from-below
+            raise-done t o worth far worth′ far′ l (ln .to) (ln .from) rose (sound .tables .proper) settling to-below from-below
             (inr (record { free = backward-free some-flow; from = sym to-is; to = sym from-is }))
             answer new-worth new-far
             in (

@@ -41,9 +41,9 @@ module _ (t : Tables) (o : Amounts) (sound : Sound t o) (k has : ℕ) (b : Bid) 
       (record {
         zone = ap (zone-of (market-given t)) no-is;
         price = ap (price-of (market-given t)) (sym no-is);
-        within = sound .proper .buys k below;
-        small = sound .buy-prices k within;
-        few = omega (arith, sound .buys);
+        within = sound .tables .proper .buys k below;
+        small = sound .tables .buy-prices k within;
+        few = omega (arith, sound .tables .buys);
         takes = rw no-is (in-own-zone _ _ _);
         gives = rw no-is (has-some _ _);
       })
@@ -60,9 +60,9 @@ module _ (t : Tables) (o : Amounts) (sound : Sound t o) (k has : ℕ) (b : Bid) 
       (record {
         zone = ap (zone-of (market-given t)) no-is;
         price = ap (price-of (market-given t)) (sym no-is);
-        within = sound .proper .sells k below;
-        small = sound .sell-prices k within;
-        few = omega (arith, sound .buys, sound .sells);
+        within = sound .tables .proper .sells k below;
+        small = sound .tables .sell-prices k within;
+        few = omega (arith, sound .tables .buys, sound .tables .sells);
         takes = rw no-is (has-some _ _);
         gives = rw no-is (in-own-zone _ _ _);
       })

@@ -39,12 +39,12 @@ module _ (t : Tables) (o : Amounts) (sound : Sound t o) where
       let buys = length-bids-in (now (t .buys)) in
       let sells = length-bids-in (now (t .sells)) in
       elim (cases-lt k (length (market-given t .buys))) [
-        | inl buy ↦ rw (buy-no (market-given t) k buy) (omega (arith, sound .buy-prices k (omega arith)))
+        | inl buy ↦ rw (buy-no (market-given t) k buy) (omega (arith, sound .tables .buy-prices k (omega arith)))
         | inr past ↦
             let j = k - length (market-given t .buys) in
             let at-j : k ≡ length (market-given t .buys) + j = omega arith in
             let inside : j < length (market-given t .sells) = omega arith in
-            rw (at-j, sell-no (market-given t) j inside) (omega (arith, sound .sell-prices j (omega arith)))
+            rw (at-j, sell-no (market-given t) j inside) (omega (arith, sound .tables .sell-prices j (omega arith)))
       ]
 
   module _
@@ -98,5 +98,5 @@ paying-shown t o p r sound planned found =
     ( is
     , λ feasible.
         subst⁻¹ (Shown (market-given t) (outcome-given o) p) is
-        (plan-shown (market-given t) (outcome-given o) p (sound .proper) feasible planned)
+        (plan-shown (market-given t) (outcome-given o) p (sound .tables .proper) feasible planned)
     )

@@ -2,8 +2,9 @@
 --
 --   market-given t         the market that tables hold; outcome-given o the outcome that lists of amounts hold; plan-in the
 --                          plan that five tables hold
---   Sound t o              the tables are those of a proper market, small enough to count in 64 bits, with an amount for each
---                          bid and a flow for each line
+--   Bounded t              the tables are those of a proper market, small enough to count in 64 bits
+--   Spaced t ..            there is an amount for each bid and a flow for each line
+--   Sound t o              both
 --   Long zones ..          tables with a number for each zone
 --   Takers, Givers         worth and out have, for each zone, what the best taker among the first n bids is worth and its
 --                          number; ask and giver have the same of the best giver
@@ -24,6 +25,8 @@ use lib.ListN.{length, set}
 use Rattle.hour.specs.Market.{Market, Outcome, Proper, at, bid}
 use Rattle.hour.specs.declared.items.Bid.{Bid}
 use Rattle.network.specs.Tables.{items, market-in, outcome-in}
+use Rattle.network.specs.Network.{Among, capacity}
+use Rattle.network.specs.declared.arcs.Item.{Item}
 use Rattle.network.specs.declared.arcs.Item.the-variants.{Line}
 use Rattle.network.specs.declared.arcs.Step.{Step}
 use Rattle.network.specs.declared.arcs.Step.the-variants.{Forward, Backward}
@@ -44,7 +47,8 @@ outcome-given o = outcome-in (now (o .bought)) (now (o .sold)) (now (o .flow))
 abbrev pub plan-in : List ℕ → List ℕ → List ℕ → List ℕ → List ℕ → Plan
 plan-in worth far out ask giver = record { worth = worth; far = far; out = out; ask = ask; giver = giver }
 
-pub record Sound (t : Tables) (o : Amounts) : Type 0 where
+-- tables of a proper market, small enough to count in 64 bits
+pub record Bounded (t : Tables) : Type 0 where
   pub proper : Proper (market-given t)
   pub zones : t .zones < 2 ^ 32
   pub buys : items (now (t .buys)) < 2 ^ 32
@@ -52,9 +56,17 @@ pub record Sound (t : Tables) (o : Amounts) : Type 0 where
   pub lines : items (now (t .lines)) < 2 ^ 32
   pub buy-prices : (k : ℕ) → k < items (now (t .buys)) → bid (market-given t .buys) k .price < 2 ^ 32
   pub sell-prices : (k : ℕ) → k < items (now (t .sells)) → bid (market-given t .sells) k .price < 2 ^ 32
-  pub bought : items (now (t .buys)) ≤ length (now (o .bought))
-  pub sold : items (now (t .sells)) ≤ length (now (o .sold))
-  pub flow : items (now (t .lines)) ≤ length (now (o .flow))
+  pub capacities : (i : Item) → Among (market-given t) i → capacity (market-given t) i < 2 ^ 63
+
+-- an amount for each bid and a flow for each line
+pub record Spaced (t : Tables) (bought sold flow : List ℕ) : Type 0 where
+  pub buys : items (now (t .buys)) ≤ length bought
+  pub sells : items (now (t .sells)) ≤ length sold
+  pub lines : items (now (t .lines)) ≤ length flow
+
+pub record Sound (t : Tables) (o : Amounts) : Type 0 where
+  pub tables : Bounded t
+  pub spaced : Spaced t (now (o .bought)) (now (o .sold)) (now (o .flow))
 
 -- tables with a number for each zone
 pub record Long (zones : ℕ) (worth out ask giver : List ℕ) : Type 0 where
