@@ -10,3 +10,4 @@ pub mod Always
 pub mod Calm
 pub mod Fall
 pub mod OnTables
+pub mod Walked

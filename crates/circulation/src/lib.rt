@@ -1,4 +1,5 @@
 // Pushes along closed ways that pay, until none does.
 pub mod promises;
+mod push;
 mod steps;
 mod sweep;

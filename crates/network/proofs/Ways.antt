@@ -61,7 +61,7 @@ fits-moved :
 fits-moved m o d s t apart f =
     record { among = f .among; fits = omega (arith, f .fits, room-moved m o d s t apart) }
 
-fits-rest :
+pub fits-rest :
     (m : Market) (o : Outcome) (d : ℕ) (s : Step) (ts : List Step) →
     All (λ t. start m t ≢ start m s) ts → All (Fits m o d) ts → All (Fits m (moved o s d) d) ts
 fits-rest m o d s [] apart fits = tt
