@@ -11,3 +11,5 @@ pub mod Calm
 pub mod Fall
 pub mod OnTables
 pub mod Walked
+pub mod Asked
+pub mod Turns

@@ -25,7 +25,7 @@ item-numbered t numbers v x y i is less nth-is =
     nth-is
     ∙ (ap (nth (items (now (t .buys))) (items (now (t .sells)))) (less ∙ ap (λ (k : ℕ). k - 1) is)
     ∙ ap₂ (λ (b s : ℕ). nth b s (at numbers v - 1))
-      (sym (length-bids-in (now (t .buys)))) (sym (length-bids-in (now (t .sells)))))
+    (sym (length-bids-in (now (t .buys)))) (sym (length-bids-in (now (t .sells)))))
 
 module _ (m : Market) (o : Outcome) (t : Plan) where
   bottleneck-more :
@@ -50,13 +50,13 @@ module _ (m : Market) (o : Outcome) (t : Plan) where
   narrows-more v least left zone left′ next s r least′ before one-less step-is room-is least-is next-is =
       let X = bottleneck m o (way-out m t left′ (finish m (out-step m t zone))) in
       let here : min least (bottleneck m o (way-out m t (suc left′) zone)) ≡ bottleneck m o (closed-way m t v) =
-          subst (λ k. min least (bottleneck m o (way-out m t k zone)) ≡ bottleneck m o (closed-way m t v)) one-less before
+      subst (λ k. min least (bottleneck m o (way-out m t k zone)) ≡ bottleneck m o (closed-way m t v)) one-less before
       in
       let split : bottleneck m o (way-out m t (suc left′) zone) ≡ min (room m o (out-step m t zone)) X =
-          bottleneck-more (out-step m t zone) left′ (finish m (out-step m t zone))
+      bottleneck-more (out-step m t zone) left′ (finish m (out-step m t zone))
       in
       let next-same : bottleneck m o (way-out m t left′ next) ≡ X =
-          ap (λ (z : ℕ). bottleneck m o (way-out m t left′ z)) (next-is ∙ ap (finish m) step-is)
+      ap (λ (z : ℕ). bottleneck m o (way-out m t left′ z)) (next-is ∙ ap (finish m) step-is)
       in
       let room-same : r ≡ room m o (out-step m t zone) = room-is ∙ ap (room m o) step-is in
       omega (arith, here, split, next-same, room-same)
@@ -66,6 +66,6 @@ module _ (m : Market) (o : Outcome) (t : Plan) where
       r ≡ room m o s → min least r ≡ bottleneck m o (closed-way m t v)
   narrows-end v least left zone s r before none step-is room-is =
       let here : min least (bottleneck m o (way-out m t 0 zone)) ≡ bottleneck m o (closed-way m t v) =
-          subst (λ k. min least (bottleneck m o (way-out m t k zone)) ≡ bottleneck m o (closed-way m t v)) none before
+      subst (λ k. min least (bottleneck m o (way-out m t k zone)) ≡ bottleneck m o (closed-way m t v)) none before
       in
       ap (min least) (room-is ∙ ap (room m o) step-is) ∙ here

@@ -39,22 +39,22 @@ module _
     (t : Tables) (bought sold flow : List ℕ) (d : ℕ) (s : Step) (i : Item) (spaced : Spaced t bought sold flow)
     (fits : Fits (market-given t) (outcome-in bought sold flow) d s)
   where
-  pub forward-carries :
-      Bounded t → 0 < d → s ≡ Forward i →
-      record { placed : Placed bought sold flow i; fits : carried (outcome-in bought sold flow) i + d < 2 ^ 64 }
-  forward-carries tables some is =
-      let here = subst (Fits (market-given t) (outcome-in bought sold flow) d) is fits in
-      record
-      { placed = placed t bought sold flow spaced i (here .among)
-      ; fits = more-fits t (outcome-in bought sold flow) d i tables some here
-      }
+    pub forward-carries :
+        Bounded t → 0 < d → s ≡ Forward i →
+        record { placed : Placed bought sold flow i; fits : carried (outcome-in bought sold flow) i + d < 2 ^ 64 }
+    forward-carries tables some is =
+        let here = subst (Fits (market-given t) (outcome-in bought sold flow) d) is fits in
+        record {
+          placed = placed t bought sold flow spaced i (here .among);
+          fits = more-fits t (outcome-in bought sold flow) d i tables some here;
+        }
 
-  pub backward-carries :
-      s ≡ Backward i →
-      record { placed : Placed bought sold flow i; fits : d ≤ carried (outcome-in bought sold flow) i }
-  backward-carries is =
-      let here = subst (Fits (market-given t) (outcome-in bought sold flow) d) is fits in
-      record { placed = placed t bought sold flow spaced i (here .among); fits = here .fits }
+    pub backward-carries :
+        s ≡ Backward i →
+        record { placed : Placed bought sold flow i; fits : d ≤ carried (outcome-in bought sold flow) i }
+    backward-carries is =
+        let here = subst (Fits (market-given t) (outcome-in bought sold flow) d) is fits in
+        record { placed = placed t bought sold flow spaced i (here .among); fits = here .fits }
 
 -- what is left to push along, and that it fits
 pub record Walks (m : Market) (t : Plan) (o : Outcome) (v d left zone : ℕ) (q : Outcome) : Type 0 where
@@ -72,11 +72,11 @@ module _ (m : Market) (t : Plan) (o : Outcome) (v d : ℕ) where
       let there : q ≡ moved o first d = is ∙ ap (λ (x : Step). moved o x d) step-is in
       subst⁻¹ (λ k. Walks m t o v d k v q) all
       (subst⁻¹ (λ p. Walks m t o v d (at (t .far) v) v p) there
-        (record
-          { rest = refl
-          ; fits = fits-rest m o d first (way-out m t (at (t .far) v) v) (once .0) (fits .1)
-          ; once = once .1
-          }))
+      (record {
+        rest = refl;
+        fits = fits-rest m o d first (way-out m t (at (t .far) v) v) (once .0) (fits .1);
+        once = once .1;
+      }))
 
   pub walks-all : (left left′ zone : ℕ) (q : Outcome) → left ≡ left′ → Walks m t o v d left zone q → Walks m t o v d left′ zone q
   walks-all left left′ zone q same walks = subst (λ k. Walks m t o v d k zone q) same walks
@@ -99,11 +99,11 @@ module _ (m : Market) (t : Plan) (o : Outcome) (v d : ℕ) where
       let onto : next ≡ finish m first = next-is ∙ ap (finish m) step-is in
       subst⁻¹ (λ z. Walks m t o v d left′ z q′) onto
       (subst⁻¹ (λ p. Walks m t o v d left′ (finish m first) p) there
-        (record
-          { rest = here .rest
-          ; fits = fits-rest m q d first (way-out m t left′ (finish m first)) (here .once .0) (here .fits .1)
-          ; once = here .once .1
-          }))
+      (record {
+        rest = here .rest;
+        fits = fits-rest m q d first (way-out m t left′ (finish m first)) (here .once .0) (here .fits .1);
+        once = here .once .1;
+      }))
 
   pub walks-end :
       (left zone : ℕ) (q q′ : Outcome) (s : Step) → Walks m t o v d left zone q → left ≡ 0 →

@@ -23,6 +23,9 @@ pub record Tally : Type 0 where
   pub outcome : Outcome
   pub pushes : ℕ
 
+abbrev pub tally : Outcome → ℕ → Tally
+tally o n = record { outcome = o; pushes = n }
+
 -- as much as fits, along a way
 abbrev pub pushed-full : Market → List Step → Tally → Tally
 pushed-full m ss y =
@@ -36,5 +39,5 @@ asked m t v y =
     y
 
 abbrev pub swept : Market → Plan → ℕ → Outcome → Tally
-swept m t zero o = record { outcome = o; pushes = 0 }
+swept m t zero o = tally o 0
 swept m t (suc v) o = asked m t v (swept m t v o)

@@ -74,7 +74,15 @@ fn move_along(t: Tables, step: Step, d: u64, bought: &mut [u64], sold: &mut [u64
 }
 
 // So much more along each step of zone v's closed way: from the hub by the zone's giver, over its lines, and back to the hub.
-pub fn push(t: Tables, w: Ways, v: usize, d: u64, bought: &mut [u64], sold: &mut [u64], flow: &mut [u64])
+pub fn push(
+    t: Tables,
+    w: Ways,
+    v: usize,
+    d: u64,
+    bought: &mut [u64],
+    sold: &mut [u64],
+    flow: &mut [u64],
+)
     requires tables { ⌜ Bounded t ⌝ }
     requires spaced { ⌜ Spaced t (now bought) (now sold) (now flow) ⌝ }
     requires some { ⌜ 0 < d ⌝ }

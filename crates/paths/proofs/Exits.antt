@@ -88,25 +88,25 @@ module _ (m : Market) (o : Outcome) (worth far : List ℕ) where
 
     pub exits-own : (out : List ℕ) → Exits-to v out → at far v ≡ 0 → Exits-to (v + 1) out
     exits-own out before near =
-        record
-        { done = λ u less.
-            elim (cases-lt u v) [
-              | inl earlier ↦ before .done u earlier
-              | inr last ↦
-                  let same : u ≡ v = omega arith in
-                  rw same (before .later v (omega arith) below ∙ own-exit near)
-            ]
-        ; later = λ u from within. before .later u (omega arith) within
+        record {
+          done = λ u less.
+              elim (cases-lt u v) [
+                | inl earlier ↦ before .done u earlier
+                | inr last ↦
+                    let same : u ≡ v = omega arith in
+                    rw same (before .later v (omega arith) below ∙ own-exit near)
+              ];
+          later = λ u from within. before .later u (omega arith) within;
         }
 
     pub exits-open : (out : List ℕ) → v < length out → Exits-to v out → Exits-past v (set out v 0)
     exits-open out inside before =
-        record
-        { done = λ u less.
-            let other : u ≢ v = omega arith in getD-set-other out v u 0 0 other ∙ before .done u less
-        ; here = getD-set-same out v 0 0 inside
-        ; later = λ u from within.
-            let other : u ≢ v = omega arith in getD-set-other out v u 0 0 other ∙ before .later u (omega arith) within
+        record {
+          done = λ u less.
+              let other : u ≢ v = omega arith in getD-set-other out v u 0 0 other ∙ before .done u less;
+          here = getD-set-same out v 0 0 inside;
+          later = λ u from within.
+              let other : u ≢ v = omega arith in getD-set-other out v u 0 0 other ∙ before .later u (omega arith) within;
         }
 
     pub exits-found :
@@ -116,35 +116,35 @@ module _ (m : Market) (o : Outcome) (worth far : List ℕ) where
         Exits-to (v + 1) (set out v x)
     exits-found out l n x inside all less number before away none leads =
         let is = first-here (onward m o worth far v) l none (length (m .lines)) (omega arith) leads in
-        record
-        { done = λ u within.
-            elim (cases-lt u v) [
-              | inl earlier ↦
-                  let other : u ≢ v = omega arith in getD-set-other out v u _ 0 other ∙ before .done u earlier
-              | inr last ↦
-                  let same : u ≡ v = omega arith in
-                  rw same
-                  (getD-set-same out v x 0 inside
-                  ∙ (number ∙ (add-one (bids m + l) ∙ (ap (line-no m) is ∙ line-exit away))))
-            ]
-        ; later = λ u from within.
-            let other : u ≢ v = omega arith in getD-set-other out v u _ 0 other ∙ before .later u (omega arith) within
+        record {
+          done = λ u within.
+              elim (cases-lt u v) [
+                | inl earlier ↦
+                    let other : u ≢ v = omega arith in getD-set-other out v u _ 0 other ∙ before .done u earlier
+                | inr last ↦
+                    let same : u ≡ v = omega arith in
+                    rw same
+                    (getD-set-same out v x 0 inside
+                    ∙ (number ∙ (add-one (bids m + l) ∙ (ap (line-no m) is ∙ line-exit away))))
+              ];
+          later = λ u from within.
+              let other : u ≢ v = omega arith in getD-set-other out v u _ 0 other ∙ before .later u (omega arith) within;
         }
 
     pub exits-none :
         (out : List ℕ) (n : ℕ) → n ≡ length (m .lines) → Exits-past v out → at far v ≢ 0 →
         first n (λ j. when (onward m o worth far v j) j) ≡ None → Exits-to (v + 1) out
     exits-none out n all before away none =
-        record
-        { done = λ u within.
-            elim (cases-lt u v) [
-              | inl earlier ↦ before .done u earlier
-              | inr last ↦
-                  let same : u ≡ v = omega arith in
-                  rw same
-                  (before .here
-                  ∙ (ap (line-no m) (sym none)
-                  ∙ (ap (λ (k : ℕ). line-no m (first k (λ j. when (onward m o worth far v j) j))) all ∙ line-exit away)))
-            ]
-        ; later = λ u from within. before .later u (omega arith) within
+        record {
+          done = λ u within.
+              elim (cases-lt u v) [
+                | inl earlier ↦ before .done u earlier
+                | inr last ↦
+                    let same : u ≡ v = omega arith in
+                    rw same
+                    (before .here
+                    ∙ (ap (line-no m) (sym none)
+                    ∙ (ap (λ (k : ℕ). line-no m (first k (λ j. when (onward m o worth far v j) j))) all ∙ line-exit away)))
+              ];
+          later = λ u from within. before .later u (omega arith) within;
         }

@@ -51,52 +51,36 @@ module _ (t : Tables) (o : Amounts) (sound : Sound t o) where
       (worth out : List ℕ)
       (takers : Takers (market-given t) (outcome-given o) (items (now (t .buys)) + items (now (t .sells))) worth out)
     where
-    pub taker-known :
-        (v : ℕ) → v < t .zones → at out v ≡ numbered (taker (market-given t) (outcome-given o) v)
-    taker-known v below =
-        takers .number v below
-        ∙ ap (λ (n : ℕ). numbered (best n (takes (market-given t) (outcome-given o) v) (dearer (market-given t)))) all-bids
+      pub taker-known :
+          (v : ℕ) → v < t .zones → at out v ≡ numbered (taker (market-given t) (outcome-given o) v)
+      taker-known v below =
+          takers .number v below
+          ∙ ap (λ (n : ℕ). numbered (best n (takes (market-given t) (outcome-given o) v) (dearer (market-given t)))) all-bids
 
-    own-known : (v : ℕ) → v < t .zones → at worth v ≡ own (market-given t) (outcome-given o) v
-    own-known v below =
-        takers .worth v below
-        ∙ ap (λ (n : ℕ). worth-at (market-given t) (best n (takes (market-given t) (outcome-given o) v) (dearer (market-given t)))) all-bids
+      own-known : (v : ℕ) → v < t .zones → at worth v ≡ own (market-given t) (outcome-given o) v
+      own-known v below =
+          takers .worth v below
+          ∙ ap (λ (n : ℕ). worth-at (market-given t) (best n (takes (market-given t) (outcome-given o) v) (dearer (market-given t)))) all-bids
 
-    pub settling-start :
-        (far : List ℕ) → length worth ≡ t .zones → length far ≡ t .zones → ((v : ℕ) → at far v ≡ 0) →
-        Settling t o worth far
-    settling-start far worth-long far-long near =
-        reaching-start (market-given t) (outcome-given o) top worth far worth-long far-long own-known (λ v below. near v)
-        (λ v below. omega (arith, own-limit (market-given t) (outcome-given o) v (2 ^ 32 - 1) small-prices))
+      pub settling-start :
+          (far : List ℕ) → length worth ≡ t .zones → length far ≡ t .zones → ((v : ℕ) → at far v ≡ 0) →
+          Settling t o worth far
+      settling-start far worth-long far-long near =
+          reaching-start (market-given t) (outcome-given o) top worth far worth-long far-long own-known (λ v below. near v)
+          (λ v below. omega (arith, own-limit (market-given t) (outcome-given o) v (2 ^ 32 - 1) small-prices))
 
   module _
       (ask giver-no : List ℕ)
       (givers : Givers (market-given t) (outcome-given o) (items (now (t .buys)) + items (now (t .sells))) ask giver-no)
     where
-    pub giver-known :
-        (v : ℕ) → v < t .zones → at giver-no v ≡ numbered (giver (market-given t) (outcome-given o) v)
-    giver-known v below =
-        givers .number v below
-        ∙ ap (λ (n : ℕ). numbered (best n (gives (market-given t) (outcome-given o) v) (cheaper (market-given t)))) all-bids
+      pub giver-known :
+          (v : ℕ) → v < t .zones → at giver-no v ≡ numbered (giver (market-given t) (outcome-given o) v)
+      giver-known v below =
+          givers .number v below
+          ∙ ap (λ (n : ℕ). numbered (best n (gives (market-given t) (outcome-given o) v) (cheaper (market-given t)))) all-bids
 
-    pub ask-known :
-        (v : ℕ) → v < t .zones → at ask v ≡ worth-at (market-given t) (giver (market-given t) (outcome-given o) v)
-    ask-known v below =
-        givers .worth v below
-        ∙ ap (λ (n : ℕ). worth-at (market-given t) (best n (gives (market-given t) (outcome-given o) v) (cheaper (market-given t)))) all-bids
-
--- what was found is what the definition finds, and shows what it shows
-pub paying-shown :
-    (t : Tables) (o : Amounts) (p : Plan) (r : Option ℕ) → Sound t o → Planned (market-given t) (outcome-given o) p →
-    r ≡ first (length (p .worth)) (λ v. when (asks-less (p .worth) (p .ask) v) v) →
-    (r ≡ first-paying (market-given t) p)
-    × (Feasible (market-given t) (outcome-given o) → Shown (market-given t) (outcome-given o) p r)
-paying-shown t o p r sound planned found =
-    let is : r ≡ first-paying (market-given t) p =
-        found ∙ ap (λ (n : ℕ). first n (λ v. when (asks-less (p .worth) (p .ask) v) v)) (planned .worth-long)
-    in
-    ( is
-    , λ feasible.
-        subst⁻¹ (Shown (market-given t) (outcome-given o) p) is
-        (plan-shown (market-given t) (outcome-given o) p (sound .tables .proper) feasible planned)
-    )
+      pub ask-known :
+          (v : ℕ) → v < t .zones → at ask v ≡ worth-at (market-given t) (giver (market-given t) (outcome-given o) v)
+      ask-known v below =
+          givers .worth v below
+          ∙ ap (λ (n : ℕ). worth-at (market-given t) (best n (gives (market-given t) (outcome-given o) v) (cheaper (market-given t)))) all-bids

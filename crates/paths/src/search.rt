@@ -99,11 +99,11 @@ fn gives_below(worth: &[u64], ask: &[u64], v: usize) -> bool
 }
 
 // The first zone where somebody gives for less than the zone's way to the hub is worth.
-fn find_paying(worth: &[u64], ask: &[u64]) -> Option<usize>
-    requires { ⌜ length (now ask) ≡ length (now worth) ⌝ }
-    ensures { λ r. ⌜ r ≡ first (length (now (worth .entry))) (λ v. when (asks-less (now (worth .entry)) (now (ask .entry)) v) v) ⌝ }
+fn find_paying(zones: usize, worth: &[u64], ask: &[u64]) -> Option<usize>
+    requires { ⌜ length (now worth) ≡ zones ⌝ ∗ ⌜ length (now ask) ≡ zones ⌝ }
+    ensures { λ r. ⌜ r ≡ first zones (λ v. when (asks-less (now (worth .entry)) (now (ask .entry)) v) v) ⌝ }
 {
-    for v in 0..worth.len() {
+    for v in 0..zones {
         if gives_below(worth, ask, v) {
             return Some(v);
         }
@@ -111,15 +111,21 @@ fn find_paying(worth: &[u64], ask: &[u64]) -> Option<usize>
     None
 }
 
-// Labels, ways out and givers of an outcome, written into five lent tables of a number for each zone, and the first zone that
-// pays. Nothing is taken over from what the tables held.
-pub fn find_ways(t: Tables, o: Amounts, worth: &mut [u64], far: &mut [u64], out: &mut [u64], ask: &mut [u64], giver: &mut [u64]) -> Option<usize>
+// Labels, ways out and givers of an outcome. Nothing is taken over from what the tables held.
+fn plan_ways(
+    t: Tables,
+    o: Amounts,
+    worth: &mut [u64],
+    far: &mut [u64],
+    out: &mut [u64],
+    ask: &mut [u64],
+    giver: &mut [u64],
+)
     requires sound { ⌜ Sound t o ⌝ }
     requires tables { ⌜ Long (t .zones) (now worth) (now out) (now ask) (now giver) ⌝ }
     requires far { ⌜ length (now far) ≡ t .zones ⌝ }
     ensures planned { λ _. ⌜ Planned (market-given (t .entry)) (outcome-given (o .entry)) (plan-in (now (worth .exit)) (now (far .exit)) (now (out .exit)) (now (ask .exit)) (now (giver .exit))) ⌝ }
-    ensures answer { λ r. ⌜ r ≡ first-paying (market-given (t .entry)) (plan-in (now (worth .exit)) (now (far .exit)) (now (out .exit)) (now (ask .exit)) (now (giver .exit))) ⌝ }
-    ensures shown { λ r. ⌜ (Feasible (market-given (t .entry)) (outcome-given (o .entry)) → Shown (market-given (t .entry)) (outcome-given (o .entry)) (plan-in (now (worth .exit)) (now (far .exit)) (now (out .exit)) (now (ask .exit)) (now (giver .exit))) r) ⌝ }
+    ensures shown { λ _. ⌜ (Feasible (market-given (t .entry)) (outcome-given (o .entry)) → Shown (market-given (t .entry)) (outcome-given (o .entry)) (plan-in (now (worth .exit)) (now (far .exit)) (now (out .exit)) (now (ask .exit)) (now (giver .exit))) (first-paying (market-given (t .entry)) (plan-in (now (worth .exit)) (now (far .exit)) (now (out .exit)) (now (ask .exit)) (now (giver .exit))))) ⌝ }
 {
     wipe(worth);
     wipe(far);
@@ -130,5 +136,26 @@ pub fn find_ways(t: Tables, o: Amounts, worth: &mut [u64], far: &mut [u64], out:
     look_at_sells(t, o, worth, out, ask, giver);
     settle(t, o, worth, far);
     ways_out(t, o, worth, far, out);
-    find_paying(worth, ask)
+}
+
+// The best way of each zone to the hub, written into five lent tables of a number for each zone, and the first zone that pays.
+// Where none pays, the ways are the shortest and no closed way gains; where one does, its closed way gains.
+pub fn find_ways(
+    t: Tables,
+    o: Amounts,
+    worth: &mut [u64],
+    far: &mut [u64],
+    out: &mut [u64],
+    ask: &mut [u64],
+    giver: &mut [u64],
+) -> Option<usize>
+    requires sound { ⌜ Sound t o ⌝ }
+    requires tables { ⌜ Long (t .zones) (now worth) (now out) (now ask) (now giver) ⌝ }
+    requires far { ⌜ length (now far) ≡ t .zones ⌝ }
+    ensures planned { λ _. ⌜ Planned (market-given (t .entry)) (outcome-given (o .entry)) (plan-in (now (worth .exit)) (now (far .exit)) (now (out .exit)) (now (ask .exit)) (now (giver .exit))) ⌝ }
+    ensures answer { λ r. ⌜ r ≡ first-paying (market-given (t .entry)) (plan-in (now (worth .exit)) (now (far .exit)) (now (out .exit)) (now (ask .exit)) (now (giver .exit))) ⌝ }
+    ensures shown { λ _. ⌜ (Feasible (market-given (t .entry)) (outcome-given (o .entry)) → Shown (market-given (t .entry)) (outcome-given (o .entry)) (plan-in (now (worth .exit)) (now (far .exit)) (now (out .exit)) (now (ask .exit)) (now (giver .exit))) (first-paying (market-given (t .entry)) (plan-in (now (worth .exit)) (now (far .exit)) (now (out .exit)) (now (ask .exit)) (now (giver .exit))))) ⌝ }
+{
+    plan_ways(t, o, worth, far, out, ask, giver);
+    find_paying(t.zones as usize, worth, ask)
 }

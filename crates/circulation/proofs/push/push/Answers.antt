@@ -9,14 +9,14 @@ loop-k-holds c o walks = walks-all _ _ _ _ _ _ _ _ _ (omega arith) walks
 pub move-along-requires-in-loop-k : need.move-along-requires-in-loop-k
 move-along-requires-in-loop-k c κs =
     let begun =
-        walks-start _ _ _ (c .args .v) _ _ _ _ (c .pre .once) (c .pre .fits)
-        (c .step-in .ensures) (c .move-along .ensures) (c .number-at-lines .ensures)
+    walks-start _ _ _ (c .args .v) _ _ _ _ (c .pre .once) (c .pre .fits)
+    (c .step-in .ensures) (c .move-along .ensures) (c .number-at-lines .ensures)
     in
-    record
-    { tables = c .pre .tables
-    ; spaced = omega arith
-    ; some = c .pre .some
-    ; fits = walks-step _ _ _ _ _ _ _ _ _ (c .loop-k .inv _ begun) (c .step-out-step .ensures)
+    record {
+      tables = c .pre .tables;
+      spaced = omega arith;
+      some = c .pre .some;
+      fits = walks-step _ _ _ _ _ _ _ _ _ (c .loop-k .inv _ begun) (c .step-out-step .ensures);
     }
 
 pub loop-k-again : need.loop-k-again
@@ -29,21 +29,21 @@ loop-k-again c o walks =
 pub move-along-requires-2 : need.move-along-requires-2
 move-along-requires-2 c κs =
     let begun =
-        walks-start _ _ _ (c .args .v) _ _ _ _ (c .pre .once) (c .pre .fits)
-        (c .step-in .ensures) (c .move-along .ensures) (c .number-at-lines .ensures)
+    walks-start _ _ _ (c .args .v) _ _ _ _ (c .pre .once) (c .pre .fits)
+    (c .step-in .ensures) (c .move-along .ensures) (c .number-at-lines .ensures)
     in
-    record
-    { tables = c .pre .tables
-    ; spaced = omega arith
-    ; some = c .pre .some
-    ; fits = walks-step _ _ _ _ _ _ _ _ _ (c .loop-k .inv _ begun) (c .step-out .ensures)
+    record {
+      tables = c .pre .tables;
+      spaced = omega arith;
+      some = c .pre .some;
+      fits = walks-step _ _ _ _ _ _ _ _ _ (c .loop-k .inv _ begun) (c .step-out .ensures);
     }
 
 pub returns : need.returns
 returns c =
     let begun =
-        walks-start _ _ _ (c .args .v) _ _ _ _ (c .pre .once) (c .pre .fits)
-        (c .step-in .ensures) (c .move-along .ensures) (c .number-at-lines .ensures)
+    walks-start _ _ _ (c .args .v) _ _ _ _ (c .pre .once) (c .pre .fits)
+    (c .step-in .ensures) (c .move-along .ensures) (c .number-at-lines .ensures)
     in
     let lines = c .number-at-lines .result in
     walks-end _ _ _ (c .args .v) _ (lines - c .loop-k .k) _ _ _ _ (c .loop-k .inv _ begun) (omega arith)

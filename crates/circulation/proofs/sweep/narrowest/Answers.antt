@@ -27,5 +27,5 @@ returns c =
     let lines = c .number-at-lines .result in
     c .min .ensures
     ∙ narrows-end (market-given (c .args .t)) (outcome-given (c .args .o)) (plan-given (c .args .w)) (c .args .v)
-      (c .loop-k .least) (lines - c .loop-k .k) (c .loop-k .zone) _ _
-      (c .loop-k .inv) (omega arith) (c .step-out .ensures) (c .room-for-2 .ensures)
+    (c .loop-k .least) (lines - c .loop-k .k) (c .loop-k .zone) _ _
+    (c .loop-k .inv) (omega arith) (c .step-out .ensures) (c .room-for-2 .ensures)

@@ -14,10 +14,10 @@ zones-again-then-leads-onward c =
     (c .loop-l .inv .0) (c .if-far-v-eq0 .left) (c .loop-l .inv .1) (sym (c .leads-onward .ensures) ∙ c .if-leads-onward .taken)
 
 pub loop-l-again : need.loop-l-again
-loop-l-again c =
-    ( c .loop-l .inv .0
-    , first-past _ (c .loop-l .l) (c .loop-l .inv .1) (sym (c .leads-onward .ensures) ∙ c .if-leads-onward .left)
-    )
+loop-l-again c = (
+  c .loop-l .inv .0,
+  first-past _ (c .loop-l .l) (c .loop-l .inv .1) (sym (c .leads-onward .ensures) ∙ c .if-leads-onward .left),
+)
 
 pub zones-again : need.zones-again
 zones-again c =
