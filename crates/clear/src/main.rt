@@ -1,13 +1,13 @@
-// clear [HOUR]: reads an hour, from standard input where none is named, and lists it or says why it is refused.
+// clear [HOUR]: reads an hour, from standard input where none is named, and clears it or says why it is refused.
 use hour::Fault;
 use hour::FaultFromAllocError;
 use hour::Told;
 use hour::arguments;
-use hour::listing;
 use hour::read_file;
 use hour::read_standard_input;
 use hour::tell;
 use hour::write_answer;
+use prices::published_text;
 
 fn named_file(rt: &LibcRuntime) -> Result<Option<String>, Fault> {
     let mut args = arguments(rt)?;
@@ -23,7 +23,7 @@ fn run(rt: &LibcRuntime) -> Result<(), Fault> {
         Some(name) => read_file(rt, name)?,
         None => read_standard_input(rt)?,
     };
-    let text = listing(rt.alloc(), bytes.as_slice())?;
+    let text = published_text(rt.alloc(), bytes.as_slice())?;
     write_answer(rt, text.as_str())
 }
 

@@ -14,6 +14,7 @@ pub use tables::item_at;
 pub use tables::line_at;
 pub use tables::line_in;
 pub use tables::number_at;
+pub use tables::worth_of;
 
 #[cfg(test)]
 mod tests;

@@ -1,4 +1,4 @@
-// Sample hours: what is listed of the refused and of the worked ones, the counts of hours at the limits, and whether each
+// Sample hours: what is listed of the refused and of the worked ones, what the worked ones come to, the counts of hours at the limits, and whether each
 // hour is written back as it was read.
 mod copies;
 mod limits;
@@ -16,6 +16,7 @@ use hour::read_file;
 use hour::refusal;
 use hour::tell;
 use hour::write_answer;
+use prices::published_text;
 use std::alloc::AllocError;
 use std::alloc::Global;
 
@@ -86,9 +87,10 @@ fn worked_hours(rt: &LibcRuntime) -> Result<(), Fault> {
         let bytes = read_file(rt, format!(heap, "worked/{name}.bin")?)?;
         let text = listing(heap, bytes.as_slice())?;
         let copied = copy_word(written_back(heap, bytes.as_slice())?);
+        let result = published_text(heap, bytes.as_slice())?;
         write_answer(
             rt,
-            format!(heap, "worked {name}\n{text}{copied}\n")?.as_str(),
+            format!(heap, "worked {name}\n{text}{copied}\n{result}")?.as_str(),
         )?;
     }
     Ok(())
