@@ -1,5 +1,5 @@
-// Sample hours: what is listed of the refused and of the worked ones, what the worked ones come to, the counts of hours at the limits, and whether each
-// hour is written back as it was read.
+// Sample hours: what is listed of the refused and of the worked ones, what the worked and the odd ones come to, the counts of hours at the limits, and
+// whether each hour is written back as it was read.
 mod copies;
 mod limits;
 
@@ -23,6 +23,18 @@ use std::alloc::Global;
 const REFUSED: u64 = 54;
 
 const WORKED: [&str; 9] = ["A", "A1", "B", "C", "D", "E", "F", "G", "takeback"];
+
+const ODD: [&str; 9] = [
+    "nobids",
+    "onebuy",
+    "onesell",
+    "oneline",
+    "emptyzones",
+    "zeroline",
+    "selfline",
+    "parallel",
+    "alternating",
+];
 
 const LIMITS: [Counts; 6] = [
     Counts {
@@ -96,6 +108,16 @@ fn worked_hours(rt: &LibcRuntime) -> Result<(), Fault> {
     Ok(())
 }
 
+fn odd_hours(rt: &LibcRuntime) -> Result<(), Fault> {
+    let heap = rt.alloc();
+    for name in ODD {
+        let bytes = read_file(rt, format!(heap, "odd/{name}.bin")?)?;
+        let result = published_text(heap, bytes.as_slice())?;
+        write_answer(rt, format!(heap, "odd {name}\n{result}")?.as_str())?;
+    }
+    Ok(())
+}
+
 fn counts_read(heap: Global, bytes: &[u8]) -> Result<String, AllocError> {
     if let Some(refusal) = refusal(bytes) {
         return format!(heap, "{refusal}\n");
@@ -125,6 +147,7 @@ fn hours_at_limits(rt: &LibcRuntime) -> Result<(), Fault> {
 fn run(rt: &LibcRuntime) -> Result<(), Fault> {
     refused_hours(rt)?;
     worked_hours(rt)?;
+    odd_hours(rt)?;
     hours_at_limits(rt)
 }
 
@@ -132,7 +155,7 @@ fn main(rt: LibcRuntime) -> Result<(), Told> {
     tell(
         &rt,
         "trials",
-        "trials, where refused/ and worked/ stand",
+        "trials, where refused/, worked/ and odd/ stand",
         run(&rt),
     )
 }
