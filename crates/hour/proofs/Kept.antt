@@ -1,15 +1,13 @@
 -- An hour that no rule refuses keeps the rules, and the other way round. Assumes nothing.
-use Rattle.std.proofs.Common.{◌≡◌, ℕ, ◌+◌, ◌*◌, ◌<◌, ◌≤◌, true, false, eqb, ltb, leb, List, length, is_some, Some, None, Option, sym, refl, ap, ◌∙◌, pos_of_ne-zero, zero-add, arith}
+use Rattle.std.proofs.Common.{◌≡◌, ℕ, ◌+◌, ◌<◌, false, eqb, List, length, is_some, None, sym, ap, ◌∙◌, pos_of_ne-zero, zero-add, arith}
 use Rattle.std.proofs.lemmas.List.FromFn.{length-map-range_with_len, get_or-map-range_with_len}
 use Rattle.std.proofs.lemmas.Bool.{eqb-false, ne_eqb, ltb-false, le-ltb, leb-false, lt-leb, or_parts, or_from}
 use Rattle.hour.specs.declared.items.Bid.{Bid}
 use Rattle.hour.specs.declared.items.Line.{Line}
-use Rattle.hour.specs.declared.refusals.Refusal.{Refusal}
 use Rattle.hour.specs.Bytes.{byte, two, bid_at, line_at, head_fault, market_of, refusal_of}
-use Rattle.hour.specs.First.{◌else◌, first}
 use Rattle.hour.specs.Market.{Market, bid, line}
 use Rattle.hour.specs.Rules.{bid_place, line_place, bid_fault, line_fault, bids_fault, all_lines_fault, item_fault}
-use Rattle.hour.specs.Rules.{shape_fault, BidKept, LineKept, KeepsRules}
+use Rattle.hour.specs.Rules.{BidKept, LineKept, KeepsRules}
 use Rattle.hour.proofs.First.{is_none, else_none, else_none_left, else_none_right, when_none, when_false, first_none, first_all}
 use Rattle.hour.proofs.Heads.{Sound, sound_head}
 

@@ -1,5 +1,5 @@
 -- Numbers and their bytes, low byte first. Assumes nothing.
-use Rattle.std.proofs.Common.{◌≡◌, ℕ, ◌+◌, ◌*◌, ◌/◌, ◌%◌, ◌<◌, ◌≤◌, List, [], ◌∷◌, sym, refl, ap, ◌∙◌, ap₂, arith}
+use Rattle.std.proofs.Common.{◌≡◌, ℕ, ◌+◌, ◌*◌, ◌/◌, ◌%◌, ◌<◌, [], ◌∷◌, ap, ◌∙◌, ap₂, arith}
 use Rattle.hour.specs.Bytes.{low_bytes}
 
 -- a number below 256, 256 * 256 or 256 * 256 * 256 is the sum of its bytes

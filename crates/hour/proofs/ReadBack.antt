@@ -1,13 +1,13 @@
 -- An hour that keeps the rules, written and read back. Assumes nothing.
-use Rattle.std.proofs.Common.{◌≡◌, ℕ, zero, suc, ◌+◌, ◌*◌, ◌/◌, ◌%◌, ◌<◌, ◌≤◌, false, not, List, [], ◌∷◌, ◌++◌, length, get_or, None, sym, refl, ap, ◌∙◌, ap₂, add-zero, mul-zero, zero-add, mul-suc, arith}
+use Rattle.std.proofs.Common.{◌≡◌, ℕ, zero, suc, ◌+◌, ◌*◌, ◌/◌, ◌%◌, ◌<◌, ◌≤◌, List, [], ◌∷◌, ◌++◌, length, get_or, None, sym, refl, ap, ◌∙◌, ap₂, mul-zero, zero-add, mul-suc, arith}
 use Rattle.std.proofs.lemmas.List.FromFn.{length-map-range_with_len, get_or-map-range_with_len}
-use Rattle.std.proofs.lemmas.List.{append_assoc, append-nil, length-append, get_or_append_left, get_or-append-add, same_lists, get_or_default}
+use Rattle.std.proofs.lemmas.List.{append_assoc, append-nil, get_or_append_left, get_or-append-add, same_lists, get_or_default}
 use Rattle.std.specs.List.{flat_map}
 use Rattle.hour.specs.declared.items.Bid.{Bid}
 use Rattle.hour.specs.declared.items.Line.{Line}
 use Rattle.hour.specs.Books.{size_of}
 use Rattle.hour.specs.Bytes.{size_said, byte, two, three, bid_at, line_at, bids_said, lines_said, market_of}
-use Rattle.hour.specs.Bytes.{head_fault, refusal_of, head_bytes, bid_bytes, line_bytes, bytes_of}
+use Rattle.hour.specs.Bytes.{refusal_of, head_bytes, bid_bytes, line_bytes, bytes_of}
 use Rattle.hour.specs.Listed.{listed}
 use Rattle.hour.specs.Market.{Market, bid, line}
 use Rattle.hour.specs.Promises.{ReadBack}

@@ -1,5 +1,5 @@
 -- Laws of `rows`, for every loop that writes a row a turn. Assumes nothing.
-use Rattle.std.proofs.Common.{◌≡◌, ℕ, zero, suc, ◌+◌, List, ◌++◌, sym, ap, ◌∙◌, append_assoc, add-one}
+use Rattle.std.proofs.Common.{◌≡◌, ℕ, ◌+◌, List, ◌++◌, sym, ap, ◌∙◌, append_assoc, add-one}
 use Rattle.hour.specs.Text.{rows}
 
 module _ (f : ℕ → List ℕ) where

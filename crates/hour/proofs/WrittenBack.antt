@@ -1,16 +1,13 @@
 -- Bytes that are not refused, read and written back. Assumes nothing.
-use Rattle.std.proofs.Common.{◌≡◌, ℕ, zero, suc, ◌+◌, ◌*◌, ◌<◌, ◌≤◌, List, [], ◌∷◌, ◌++◌, length, get_or, take, drop, None, sym, refl, ap, ◌∙◌, ap₂, mul-zero, mul-suc, add-one, arith, drop-drop, take-add}
-use Rattle.std.proofs.lemmas.List.FromFn.{get_or-map-range_with_len, length-map-range_with_len, map-range_with_len_more}
+use Rattle.std.proofs.Common.{◌≡◌, ℕ, zero, suc, ◌+◌, ◌*◌, ◌<◌, ◌≤◌, List, [], ◌∷◌, ◌++◌, length, take, drop, sym, refl, ap, ◌∙◌, ap₂, mul-zero, mul-suc, add-one, arith, drop-drop, take-add}
+use Rattle.std.proofs.lemmas.List.FromFn.{map-range_with_len_more}
 use Rattle.std.proofs.lemmas.List.{length-take-le, length-drop, get_or-take, get_or-drop, flat_map_more, take_all}
 use Rattle.std.specs.List.{flat_map}
-use Rattle.hour.specs.declared.items.Bid.{Bid}
-use Rattle.hour.specs.declared.items.Line.{Line}
 use Rattle.hour.specs.Bytes.{byte, two, three, low_bytes, bid_at, line_at, market_of, refusal_of, head_bytes}
-use Rattle.hour.specs.Bytes.{bid_bytes, line_bytes, bytes_of, size_said}
+use Rattle.hour.specs.Bytes.{bid_bytes, line_bytes, bytes_of}
 use Rattle.hour.specs.Listed.{listed}
-use Rattle.hour.specs.Market.{Market}
 use Rattle.hour.specs.Promises.{ByteString, WrittenBack, OnlyHours}
-use Rattle.hour.specs.Rules.{bid_place, line_place, KeepsRules}
+use Rattle.hour.specs.Rules.{bid_place, line_place}
 use Rattle.hour.proofs.Heads.{Sound}
 use Rattle.hour.proofs.Kept.{head_free, kept, buys_count, sells_count, lines_count}
 use Rattle.hour.proofs.Numbers.{low_from_one, low_from_two, low_from_three}

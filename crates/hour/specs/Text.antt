@@ -6,7 +6,7 @@
 --   rows n f         f 0, f 1, .., f (n - 1) one after the other
 --   Adds r s bs t    a write that answered r made the text t of s by putting bs behind it
 --   listing_of bs    a row for the refusal of the bytes; or one for the zones and one for each buy, sell and line
-use Rattle.std.specs.Prelude.{◌≡◌, ℕ, zero, suc, ◌-◌, ◌/◌, ◌%◌, cond, List, [], ◌∷◌, ◌++◌, length, Some, None, string_bytes, codes, decimal, Option, Result, String, OnOk, nat_lt}
+use Rattle.std.specs.Prelude.{◌≡◌, ℕ, zero, suc, ◌-◌, ◌/◌, ◌%◌, cond, List, [], ◌∷◌, ◌++◌, length, Some, None, string_bytes, codes, decimal, Result, String, OnOk, nat_lt}
 use Rattle.hour.specs.Bytes.{market_of, refusal_of}
 use Rattle.hour.specs.Market.{Market, bid, line}
 use Rattle.hour.specs.Refusals.{number_of, place_of}

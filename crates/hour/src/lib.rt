@@ -1,4 +1,6 @@
 // One hour of the market, from its bytes to its bids and lines and back.
+#![tactic(auto)]
+
 mod books;
 mod facts;
 mod input;

@@ -9,10 +9,9 @@ use crate::money::Price;
 use crate::reading::refusal;
 use crate::view::Hour;
 use std::alloc::{AllocError, Global};
-use std::fmt;
 
 // The bid with the number `k` of its list, which `word` calls buy or sell.
-fn bid_row(text: &mut String, word: &str, k: usize, bid: Bid) -> fmt::Result
+fn bid_row(text: &mut String, word: &str, k: usize, bid: Bid) -> Result<(), AllocError>
     ensures { Adds result text.old (bid_row word.now k bid) text.new }
 {
     let Bid {
@@ -24,21 +23,21 @@ fn bid_row(text: &mut String, word: &str, k: usize, bid: Bid) -> fmt::Result
     writeln!(text, "{word} {k} zone {zone} price {price} amount {amount}")
 }
 
-fn buy_row(text: &mut String, hour: Hour<'_>, k: usize) -> fmt::Result
+fn buy_row(text: &mut String, hour: Hour<'_>, k: usize) -> Result<(), AllocError>
     requires { k < hour.buys }
     ensures { Adds result text.old (nth_buy (market_of hour.entry.bytes.now) k) text.new }
 {
     bid_row(text, "buy", k, hour.buy(k))
 }
 
-fn sell_row(text: &mut String, hour: Hour<'_>, k: usize) -> fmt::Result
+fn sell_row(text: &mut String, hour: Hour<'_>, k: usize) -> Result<(), AllocError>
     requires { k < hour.sells }
     ensures { Adds result text.old (nth_sell (market_of hour.entry.bytes.now) k) text.new }
 {
     bid_row(text, "sell", k, hour.sell(k))
 }
 
-fn line_row(text: &mut String, hour: Hour<'_>, k: usize) -> fmt::Result
+fn line_row(text: &mut String, hour: Hour<'_>, k: usize) -> Result<(), AllocError>
     requires { k < hour.lines }
     ensures { Adds result text.old (nth_line (market_of hour.entry.bytes.now) k) text.new }
 {
@@ -46,7 +45,7 @@ fn line_row(text: &mut String, hour: Hour<'_>, k: usize) -> fmt::Result
     writeln!(text, "line {k} from {from} to {to} capacity {capacity}")
 }
 
-fn buy_rows(text: &mut String, hour: Hour<'_>) -> fmt::Result
+fn buy_rows(text: &mut String, hour: Hour<'_>) -> Result<(), AllocError>
     ensures { Adds result text.old (buy_rows (market_of hour.entry.bytes.now)) text.new }
 {
     for k in 0..hour.buys() {
@@ -55,7 +54,7 @@ fn buy_rows(text: &mut String, hour: Hour<'_>) -> fmt::Result
     Ok(())
 }
 
-fn sell_rows(text: &mut String, hour: Hour<'_>) -> fmt::Result
+fn sell_rows(text: &mut String, hour: Hour<'_>) -> Result<(), AllocError>
     ensures { Adds result text.old (sell_rows (market_of hour.entry.bytes.now)) text.new }
 {
     for k in 0..hour.sells() {
@@ -64,7 +63,7 @@ fn sell_rows(text: &mut String, hour: Hour<'_>) -> fmt::Result
     Ok(())
 }
 
-fn line_rows(text: &mut String, hour: Hour<'_>) -> fmt::Result
+fn line_rows(text: &mut String, hour: Hour<'_>) -> Result<(), AllocError>
     ensures { Adds result text.old (line_rows (market_of hour.entry.bytes.now)) text.new }
 {
     for k in 0..hour.lines() {
@@ -73,7 +72,7 @@ fn line_rows(text: &mut String, hour: Hour<'_>) -> fmt::Result
     Ok(())
 }
 
-fn market_rows(text: &mut String, hour: Hour<'_>) -> fmt::Result
+fn market_rows(text: &mut String, hour: Hour<'_>) -> Result<(), AllocError>
     ensures { Adds result text.old (market_rows (market_of hour.entry.bytes.now)) text.new }
 {
     let zones = hour.zones();
@@ -83,7 +82,7 @@ fn market_rows(text: &mut String, hour: Hour<'_>) -> fmt::Result
     line_rows(text, hour)
 }
 
-fn write_listing(text: &mut String, bytes: &[u8]) -> fmt::Result
+fn write_listing(text: &mut String, bytes: &[u8]) -> Result<(), AllocError>
     ensures { Adds result text.old (listing_of bytes.now) text.new }
 {
     if let Some(refusal) = refusal(bytes) {
@@ -97,8 +96,6 @@ pub fn listing(heap: Global, bytes: &[u8]) -> Result<String, AllocError>
     ensures { IfOk result (λ t. string_bytes t ≡ listing_of bytes.now) }
 {
     let mut text = String::new(heap);
-    match write_listing(&mut text, bytes) {
-        Ok(()) => Ok(text),
-        Err(_) => Err(AllocError),
-    }
+    write_listing(&mut text, bytes)?;
+    Ok(text)
 }

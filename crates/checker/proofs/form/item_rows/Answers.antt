@@ -3,8 +3,8 @@ use Rattle.checker.specs.Form.{table, item_at, item_step}
 use Rattle.checker.proofs.Steps.{steps_more, steps_stop, one_more_some, one_more_none}
 use Rattle.checker.proofs.form.item_rows.Goals as goal
 
-pub returns-in-default : goal.returns-in-default
-returns-in-default c =
+pub returns-in_default : goal.returns-in_default
+returns-in_default c =
     let none : None ≡ item_at c.args.sort c.loop-k.k c.loop-k.rest.now = search rules in
     let before = table (vec_items c.loop-k.amounts) (vec_items c.loop-k.moneys) c.loop-k.rest.now in
     steps_stop (item_step c.args.sort c.args.line) (table [] [] c.args.bytes.now) c.loop-k.k c.args.n _ before

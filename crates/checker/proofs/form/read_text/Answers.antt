@@ -7,20 +7,20 @@ use Rattle.checker.proofs.form.read_text.Goals as goal
 
 pub returns-then-not-is_empty : goal.returns-then-not-is_empty
 returns-then-not-is_empty c =
-    let more : length c.in-ok-lines.lines.rest.now ≡ 0 → ⊥ = search rules in
+    let more : length c.in_ok-lines.lines.rest.now ≡ 0 → ⊥ = search rules in
     text_read c.args.n c.args.bytes.now _
-    (prices_seen c.in-ok-zones.zones) (table_seen c.in-ok-buys.buys)
-    (table_seen c.in-ok-sells.sells) (table_seen c.in-ok-lines.lines) _
-    c.in-Some.ensures c.in-ok-zones.ensures c.in-ok-buys.ensures
-    c.in-ok-sells.ensures c.in-ok-lines.ensures (ended_more _ _ _ more)
+    (prices_seen c.in_ok-zones.zones) (table_seen c.in_ok-buys.buys)
+    (table_seen c.in_ok-sells.sells) (table_seen c.in_ok-lines.lines) _
+    c.in-Some.ensures c.in_ok-zones.ensures c.in_ok-buys.ensures
+    c.in_ok-sells.ensures c.in_ok-lines.ensures (ended_more _ _ _ more)
 
 pub returns : goal.returns
 returns c =
     let fits : SFits w128 c.in-Some.worth = search rules in
-    let empty : length c.in-ok-lines.lines.rest.now ≡ 0 = search rules in
+    let empty : length c.in_ok-lines.lines.rest.now ≡ 0 = search rules in
     simp to_z-of_z
     (text_read c.args.n c.args.bytes.now _
-    (prices_seen c.in-ok-zones.zones) (table_seen c.in-ok-buys.buys)
-    (table_seen c.in-ok-sells.sells) (table_seen c.in-ok-lines.lines) _
-    c.in-Some.ensures c.in-ok-zones.ensures c.in-ok-buys.ensures
-    c.in-ok-sells.ensures c.in-ok-lines.ensures (ended_empty _ _ _ empty))
+    (prices_seen c.in_ok-zones.zones) (table_seen c.in_ok-buys.buys)
+    (table_seen c.in_ok-sells.sells) (table_seen c.in_ok-lines.lines) _
+    c.in-Some.ensures c.in_ok-zones.ensures c.in_ok-buys.ensures
+    c.in_ok-sells.ensures c.in_ok-lines.ensures (ended_empty _ _ _ empty))

@@ -3,8 +3,8 @@ use Rattle.checker.specs.Form.{priced, zone_at, zone_step}
 use Rattle.checker.proofs.Steps.{steps_more, steps_stop, one_price_some, one_price_none}
 use Rattle.checker.proofs.form.zone_rows.Goals as goal
 
-pub returns-in-default : goal.returns-in-default
-returns-in-default c =
+pub returns-in_default : goal.returns-in_default
+returns-in_default c =
     let none : None ≡ zone_at c.loop-zone.zone c.loop-zone.rest.now = search rules in
     let before = priced (vec_items c.loop-zone.prices) c.loop-zone.rest.now in
     steps_stop (zone_step c.args.line) (priced [] c.args.bytes.now) c.loop-zone.zone c.args.n _ before

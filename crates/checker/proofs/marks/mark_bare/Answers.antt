@@ -18,4 +18,4 @@ loop-z-preserved c =
 pub returns : goal.returns
 returns c =
     let proper = proper_seen c.args.hour.bytes.now c.args.hour.kept in
-    marked_all _ _ _ _ _ c.loop-z.invariant proper (sym c.in-default.ensures.value)
+    marked_all _ _ _ _ _ c.loop-z.invariant proper (sym c.in_default.ensures.value)

@@ -1,5 +1,5 @@
 use Rattle.std.proofs.Common.{sym}
-use Rattle.hour.proofs.Heads.{refusal_by_head, refusal_by_items}
+use Rattle.hour.proofs.Heads.{refusal_by_head}
 use Rattle.hour.proofs.reading.refusal.Goals as goal
 
 pub returns-in-Err : goal.returns-in-Err

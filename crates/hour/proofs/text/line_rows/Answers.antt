@@ -2,4 +2,4 @@ use Rattle.hour.proofs.Rows.{row_added}
 use Rattle.hour.proofs.text.line_rows.Goals as goal
 
 pub loop-k-preserved : goal.loop-k-preserved
-loop-k-preserved c = row_added _ _ _ _ c.loop-k.k c.loop-k.invariant c.in-ok-line_row.ensures
+loop-k-preserved c = row_added _ _ _ _ c.loop-k.k c.loop-k.invariant c.in_ok-line_row.ensures

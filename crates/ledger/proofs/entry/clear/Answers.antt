@@ -9,7 +9,7 @@ pub clear_and_book-requires : goal.clear_and_book-requires
 clear_and_book-requires c =
     let a = c.args in
     let hour = c.of-hour.result in
-    let none = sym c.in-default.ensures in
+    let none = sym c.in_default.ensures in
     let buys = hour.buys_said ∙ ap (λ (bs : List ℕ). two bs 1) c.of-hour.ensures in
     let sells = hour.sells_said ∙ ap (λ (bs : List ℕ). two bs 3) c.of-hour.ensures in
     let lines = hour.lines_said ∙ ap (λ (bs : List ℕ). two bs 5) c.of-hour.ensures in
@@ -44,12 +44,12 @@ clear_and_book-requires c =
 pub returns : goal.returns
 returns c =
     let bytes = c.args.bytes.now in
-    let none = sym c.in-default.ensures in
+    let none = sym c.in_default.ensures in
     let rules = kept bytes (taken_hour bytes _ none) in
     let done = same_market _ bytes c.of-hour.ensures _ _ _ c.clear_and_book.ensures in
     let promised = promised_in (market_of bytes) rules _ _ _ done in
     record {
-      refusal = c.in-default.ensures;
+      refusal = c.in_default.ensures;
       carried_out = promised.feasible;
       settled = promised.settled;
       lowest = promised.lowest;

@@ -6,4 +6,4 @@ use Rattle.ledger.proofs.text.zone_rows.Goals as goal
 pub loop-zone-preserved : goal.loop-zone-preserved
 loop-zone-preserved c =
     row_added (λ z. zone_row z (at c.args.prices.now z)) _ _ _ c.loop-zone.zone
-    c.loop-zone.invariant c.in-ok-zone_row.ensures
+    c.loop-zone.invariant c.in_ok-zone_row.ensures

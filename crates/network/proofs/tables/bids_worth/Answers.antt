@@ -14,15 +14,15 @@ loop-k-preserved c =
       c.in-Some.ensures,
     )
 
-pub returns-in-default : goal.returns-in-default
-returns-in-default c =
+pub returns-in_default : goal.returns-in_default
+returns-in_default c =
     let bids = bids_in c.args.bids.now in
     let amounts = c.args.amounts.now in
     omega (
       arith,
       worth_more bids amounts c.loop-k.k _ _ c.bid_at.ensures c.number_at.ensures,
       worth_part c.args.bids.now amounts c.loop-k.k c.loop-k-test.true,
-      c.in-default.ensures,
+      c.in_default.ensures,
     )
 
 pub returns : goal.returns

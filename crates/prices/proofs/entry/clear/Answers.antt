@@ -8,7 +8,7 @@ use Rattle.prices.proofs.entry.clear.Goals as goal
 pub clear_tables-requires : goal.clear_tables-requires
 clear_tables-requires c =
     let a = c.args in
-    let none = sym c.in-default.ensures in
+    let none = sym c.in_default.ensures in
     record {
       kept = tables_kept a.zones a.buys.now a.sells.now a.lines.now _ _ none;
       room =
@@ -20,10 +20,10 @@ pub returns : goal.returns
 returns c =
     let a = c.args in
     let done = c.clear_tables.ensures in
-    let none = sym c.in-default.ensures in
+    let none = sym c.in_default.ensures in
     let kept = tables_kept a.zones a.buys.now a.sells.now a.lines.now _ _ none in
     record {
-      refusal = c.in-default.ensures;
+      refusal = c.in_default.ensures;
       found = done.found;
       promised = found_promised _ _ _ _ (proper_kept _ kept) done.found;
       bought = done.bought;
