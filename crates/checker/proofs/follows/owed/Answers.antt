@@ -2,8 +2,8 @@ use Rattle.std.proofs.Common.{arith}
 use Rattle.checker.proofs.Product.{product_fits, product_back}
 use Rattle.checker.proofs.follows.owed.Goals as goal
 
-pub overflow-mul-result : goal.overflow-mul-result
-overflow-mul-result c =
+pub overflow_mul-result : goal.overflow_mul-result
+overflow_mul-result c =
     product_fits c.args.above c.args.base c.args.amount (omega arith) (omega arith) (omega arith)
 
 pub returns : goal.returns

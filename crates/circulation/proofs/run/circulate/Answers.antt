@@ -2,8 +2,8 @@ use Rattle.std.proofs.Common.{sym, ◌∙◌, arith}
 use Rattle.circulation.proofs.Turns.{turn_sound, turn_runs, turn_few, turn_rises, turns_end, turns_settle}
 use Rattle.circulation.proofs.run.circulate.Goals as goal
 
-pub overflow-add-pushes : goal.overflow-add-pushes
-overflow-add-pushes c =
+pub overflow_add-pushes : goal.overflow_add-pushes
+overflow_add-pushes c =
     let few =
     turn_few _ c.requires.tables.proper _ _ _ _ c.find_ways.ensures.planned _ c.find_ways.ensures.answer
     c.loop-worth.invariant.0 c.loop-worth.invariant.1 _ _

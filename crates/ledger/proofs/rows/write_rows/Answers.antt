@@ -6,8 +6,8 @@ use Rattle.ledger.proofs.Size.{bits_back, sum_fits, sum_back}
 use Rattle.ledger.proofs.Writing.{rows_more}
 use Rattle.ledger.proofs.rows.write_rows.Goals as goal
 
-pub overflow-add-sum : goal.overflow-add-sum
-overflow-add-sum c =
+pub overflow_add-sum : goal.overflow_add-sum
+overflow_add-sum c =
     let m = market_said c.args.hour in
     let below : c.loop-k.k < count m c.args.sort = omega (arith, c.loop-k-test.true, c.count_of-k-end.ensures) in
     let so_far = ap nat_abs c.loop-k.sum-is in

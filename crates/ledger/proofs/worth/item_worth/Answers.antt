@@ -4,8 +4,8 @@ use Rattle.ledger.specs.Money.{market_said, outcome_given}
 use Rattle.ledger.proofs.Limits.{rules_of, worth_is, worth_fits}
 use Rattle.ledger.proofs.worth.item_worth.Goals as goal
 
-pub overflow-mul-result : goal.overflow-mul-result
-overflow-mul-result c =
+pub overflow_mul-result : goal.overflow_mul-result
+overflow_mul-result c =
     omega (
       arith,
       worth_fits (market_said c.args.hour) (outcome_given c.args.o) (rules_of c.args.hour) c.requires.feasible

@@ -4,8 +4,8 @@ use Rattle.ledger.specs.Money.{market_said, outcome_given, count}
 use Rattle.ledger.proofs.Limits.{rules_of, worth_to, worth_more, worth_to_small, count_small}
 use Rattle.ledger.proofs.worth.worth_of.Goals as goal
 
-pub overflow-add-sum : goal.overflow-add-sum
-overflow-add-sum c =
+pub overflow_add-sum : goal.overflow_add-sum
+overflow_add-sum c =
     let m = market_said c.args.hour in
     let rules = rules_of c.args.hour in
     let s = c.args.sort in
