@@ -9,22 +9,21 @@ use crate::worth::worth_in;
 use hour::{Hour, Price, Sort};
 use network::Amounts;
 use std::alloc::{AllocError, Global};
-use std::fmt;
 
-fn worth_row(text: &mut String, worth: i64, pushes: u64) -> fmt::Result
+fn worth_row(text: &mut String, worth: i64, pushes: u64) -> Result<(), AllocError>
     ensures { Adds result text.old (worth_row worth pushes) text.new }
 {
     writeln!(text, "worth {worth} pushes {pushes}")
 }
 
-fn zone_row(text: &mut String, zone: usize, price: u64) -> fmt::Result
+fn zone_row(text: &mut String, zone: usize, price: u64) -> Result<(), AllocError>
     ensures { Adds result text.old (zone_row zone price) text.new }
 {
     let price = Price(price);
     writeln!(text, "zone {zone} price {price}")
 }
 
-fn zone_rows(text: &mut String, zones: usize, prices: &[u64]) -> fmt::Result
+fn zone_rows(text: &mut String, zones: usize, prices: &[u64]) -> Result<(), AllocError>
     requires { zones ≤ length prices.now }
     ensures { Adds result text.old (zone_rows zones prices.now) text.new }
 {
@@ -64,7 +63,7 @@ fn words_of(sort: Sort) -> Words<'static>
     }
 }
 
-fn item_row(text: &mut String, words: Words<'_>, k: usize, amount: u64, money: i64) -> fmt::Result
+fn item_row(text: &mut String, words: Words<'_>, k: usize, amount: u64, money: i64) -> Result<(), AllocError>
     ensures { Adds result text.old (item_row (worded words.entry) k amount money) text.new }
 {
     let Words { sort, has, pays } = words;
@@ -79,7 +78,7 @@ fn item_rows(
     amounts: &[u64],
     ledger: &[u64],
     first: usize,
-) -> fmt::Result
+) -> Result<(), AllocError>
     requires amounts { n ≤ length amounts.now }
     requires ledger { first + n ≤ length ledger.now }
     ensures { Adds
@@ -111,7 +110,7 @@ fn result_rows(
     prices: &[u64],
     o: Amounts<'_>,
     ledger: &[u64],
-) -> fmt::Result
+) -> Result<(), AllocError>
     requires { Room n prices.now (outcome_given o) ledger.now }
     ensures { Adds
         result text.old
@@ -143,10 +142,8 @@ pub fn result_text(
         ≡ text_of n pushes worth prices.now (outcome_given o.entry) ledger.now) }
 {
     let mut text = String::new(heap);
-    match result_rows(&mut text, n, pushes, worth, prices, o, ledger) {
-        Ok(()) => Ok(text),
-        Err(_) => Err(AllocError),
-    }
+    result_rows(&mut text, n, pushes, worth, prices, o, ledger)?;
+    Ok(text)
 }
 
 fn counts_of(hour: Hour<'_>) -> Counts

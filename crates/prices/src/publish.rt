@@ -5,7 +5,6 @@ use crate::clearing::clear_hour;
 use hour::{Hour, Price, refusal};
 use network::{Amounts, Tables, worth_of};
 use std::alloc::{AllocError, Global};
-use std::fmt;
 
 fn zeros(heap: Global, n: usize) -> Result<Vec<u64>, AllocError>
     ensures { IfOk result (λ v. vec_len v ≡ n) }
@@ -14,7 +13,7 @@ fn zeros(heap: Global, n: usize) -> Result<Vec<u64>, AllocError>
 }
 
 // The worth of an outcome that was cleared; it is worth at least as much as nothing, so what is spent is not above what is gained.
-fn worth_row(text: &mut String, t: Tables, o: Amounts, pushes: u64) -> fmt::Result {
+fn worth_row(text: &mut String, t: Tables, o: Amounts, pushes: u64) -> Result<(), AllocError> {
     let worth = match worth_of(t, o) {
         Some(worth) => worth.gained.saturating_sub(worth.spent),
         None => 0,
@@ -22,7 +21,7 @@ fn worth_row(text: &mut String, t: Tables, o: Amounts, pushes: u64) -> fmt::Resu
     writeln!(text, "worth {worth} pushes {pushes}")
 }
 
-fn zone_rows(text: &mut String, labels: &[u64]) -> fmt::Result {
+fn zone_rows(text: &mut String, labels: &[u64]) -> Result<(), AllocError> {
     for (v, label) in labels.iter().enumerate() {
         let price = Price(label.saturating_sub(1));
         writeln!(text, "zone {v} price {price}")?;
@@ -30,14 +29,19 @@ fn zone_rows(text: &mut String, labels: &[u64]) -> fmt::Result {
     Ok(())
 }
 
-fn amount_rows(text: &mut String, sort: &str, verb: &str, amounts: &[u64]) -> fmt::Result {
+fn amount_rows(
+    text: &mut String,
+    sort: &str,
+    verb: &str,
+    amounts: &[u64],
+) -> Result<(), AllocError> {
     for (k, amount) in amounts.iter().enumerate() {
         writeln!(text, "{sort} {k} {verb} {amount}")?;
     }
     Ok(())
 }
 
-fn outcome_rows(text: &mut String, labels: &[u64], o: Amounts) -> fmt::Result {
+fn outcome_rows(text: &mut String, labels: &[u64], o: Amounts) -> Result<(), AllocError> {
     zone_rows(text, labels)?;
     amount_rows(text, "buy", "has", o.bought)?;
     amount_rows(text, "sell", "has", o.sold)?;
@@ -83,13 +87,9 @@ fn cleared_text(heap: Global, hour: Hour<'_>) -> Result<String, AllocError> {
         flow: flow.as_slice(),
     };
     let mut text = String::new(heap);
-    if worth_row(&mut text, t, o, pushes).is_err() {
-        return Err(AllocError);
-    }
-    match outcome_rows(&mut text, worth.as_slice(), o) {
-        Ok(()) => Ok(text),
-        Err(_) => Err(AllocError),
-    }
+    worth_row(&mut text, t, o, pushes)?;
+    outcome_rows(&mut text, worth.as_slice(), o)?;
+    Ok(text)
 }
 
 // A refused hour is its refusal and nothing else; any other hour is cleared.
