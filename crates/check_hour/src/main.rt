@@ -1,12 +1,13 @@
-// check HOUR RESULT: says whether the hour keeps the rules. The result is read whole, and not looked at yet.
+// check_hour HOUR RESULT: says whether the hour keeps the rules. The result is read whole, and not looked at yet.
 ghost use Rattle.std.specs.Prelude.{◌≡◌, [], ◌∷◌, IfOk, Some, string_bytes};
 ghost use Rattle.check_hour.specs.Verdict.{verdict_on};
 ghost use Rattle.hour.specs.Bytes.{refusal_of};
 ghost use Rattle.hour.specs.Text.{row};
 
-use hour::{Fault, Refusal, Told, arguments, read_file, refusal, tell, write_answer};
+use hour::{Fault, Refusal, arguments, read_file, refusal, status, tell, write_answer};
 use std::alloc::{AllocError, Global};
 use std::fmt;
+use std::process::ExitCode;
 
 fn named_files(rt: &HostRuntime) -> Result<(String, String), Fault> {
     let mut args = arguments(rt)?;
@@ -46,6 +47,6 @@ fn run(rt: &HostRuntime) -> Result<(), Fault> {
     write_answer(rt, text.as_str())
 }
 
-fn main(rt: HostRuntime) -> Result<(), Told> {
-    tell(&rt, "check", "check HOUR RESULT", run(&rt))
+fn main(rt: HostRuntime) -> ExitCode {
+    status(tell(&rt, "check_hour", "check_hour HOUR RESULT", run(&rt)))
 }

@@ -5,8 +5,9 @@ ghost use Rattle.checker.specs.Reports.{report_shown};
 ghost use Rattle.hour.specs.Text.{row};
 
 use checker::{Report, report_on};
-use hour::{Fault, Told, arguments, read_file, tell, write_answer};
+use hour::{Fault, arguments, read_file, status, tell, write_answer};
 use std::alloc::{AllocError, Global};
+use std::process::ExitCode;
 
 fn named_files(rt: &HostRuntime) -> Result<(String, String), Fault> {
     let mut args = arguments(rt)?;
@@ -33,11 +34,11 @@ fn run(rt: &HostRuntime) -> Result<bool, Fault> {
     Ok(report.stands())
 }
 
-fn main(rt: HostRuntime) -> Result<(), Told> {
+fn main(rt: HostRuntime) -> ExitCode {
     match run(&rt) {
-        Ok(true) => Ok(()),
-        Ok(false) => Err(Told),
-        Err(fault) => tell(&rt, "check_result", "check_result HOUR RESULT", Err(fault)),
+        Ok(true) => ExitCode::SUCCESS,
+        Ok(false) => ExitCode::FAILURE,
+        Err(fault) => status(tell(&rt, "check_result", "check_result HOUR RESULT", Err(fault))),
     }
 }
 

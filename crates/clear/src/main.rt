@@ -1,6 +1,7 @@
 // clear [HOUR]: reads an hour, from standard input where none is named, and clears it or says why it is refused.
-use hour::{Fault, Told, arguments, read_file, read_standard_input, tell, write_answer};
+use hour::{Fault, arguments, read_file, read_standard_input, status, tell, write_answer};
 use prices::published_text;
+use std::process::ExitCode;
 
 fn named_file(rt: &HostRuntime) -> Result<Option<String>, Fault> {
     let mut args = arguments(rt)?;
@@ -20,6 +21,6 @@ fn run(rt: &HostRuntime) -> Result<(), Fault> {
     write_answer(rt, text.as_str())
 }
 
-fn main(rt: HostRuntime) -> Result<(), Told> {
-    tell(&rt, "clear", "clear [HOUR]", run(&rt))
+fn main(rt: HostRuntime) -> ExitCode {
+    status(tell(&rt, "clear", "clear [HOUR]", run(&rt)))
 }

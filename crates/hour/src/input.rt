@@ -1,9 +1,11 @@
 // A program's call, its files and standard input, read whole, and its answer; and what can go wrong with them.
-ghost use Rattle.std.specs.Prelude.{◌≡◌, is_ok};
+ghost use Rattle.std.specs.Prelude.{◌≡◌, cond, is_ok};
+ghost use Rattle.std.specs.Process.{exit_status};
 
 use std::alloc::AllocError;
 use std::env::Args;
 use std::io::Read;
+use std::process::ExitCode;
 use std::{env, fmt, fs, io};
 
 // Why a program has no answer. A refused hour is none of these: its refusal is the answer.
@@ -95,5 +97,15 @@ pub fn tell(
             let _ = eprintln!(rt; "{program}: {fault}; usage: {usage}");
             Err(Told)
         }
+    }
+}
+
+// The status that a run ends with: 0 where it has an answer, and else 1.
+pub fn status(ended: Result<(), Told>) -> ExitCode
+    ensures { exit_status result ≡ cond (is_ok ended) 0 1 }
+{
+    match ended {
+        Ok(()) => ExitCode::SUCCESS,
+        Err(Told) => ExitCode::FAILURE,
     }
 }

@@ -15,7 +15,9 @@ mod view;
 mod writing;
 
 pub use books::Book;
-pub use input::{Fault, Told, arguments, read_file, read_standard_input, tell, write_answer};
+pub use input::{
+    Fault, Told, arguments, read_file, read_standard_input, status, tell, write_answer,
+};
 pub use items::{Bid, Line};
 pub use money::{Hundredths, Price, ZERO_PRICE};
 pub use reading::{Head, check_items, read_head, refusal};

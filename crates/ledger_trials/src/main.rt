@@ -5,8 +5,9 @@ mod sums;
 
 use crate::lending::{closing_word, one_short};
 use crate::sums::largest_hour;
-use hour::{Fault, Told, read_file, tell, write_answer};
+use hour::{Fault, read_file, status, tell, write_answer};
 use ledger::published;
+use std::process::ExitCode;
 
 const REFUSED: u64 = 54;
 
@@ -105,11 +106,11 @@ fn run(rt: &HostRuntime) -> Result<(), Fault> {
     short_slices(rt)
 }
 
-fn main(rt: HostRuntime) -> Result<(), Told> {
-    tell(
+fn main(rt: HostRuntime) -> ExitCode {
+    status(tell(
         &rt,
         "ledger_trials",
         "ledger_trials, where refused/, worked/ and odd/ stand",
         run(&rt),
-    )
+    ))
 }

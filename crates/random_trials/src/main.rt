@@ -12,8 +12,9 @@ use crate::draws::Draws;
 use crate::small::Small;
 use crate::strings::Strings;
 use crate::trial::{Alike, try_hour};
-use hour::{Fault, Told, arguments, tell, write_answer};
+use hour::{Fault, arguments, status, tell, write_answer};
 use std::alloc::{AllocError, Global};
+use std::process::ExitCode;
 
 const HOURS: u64 = 300;
 
@@ -147,11 +148,11 @@ fn run(rt: &HostRuntime) -> Result<(), Fault> {
     byte_strings(rt, &mut draws, hours.saturating_mul(STRINGS))
 }
 
-fn main(rt: HostRuntime) -> Result<(), Told> {
-    tell(
+fn main(rt: HostRuntime) -> ExitCode {
+    status(tell(
         &rt,
         "random_trials",
         "random_trials [HOURS [SEED]]",
         run(&rt),
-    )
+    ))
 }

@@ -5,9 +5,10 @@ mod limits;
 
 use crate::copies::written_back;
 use crate::limits::{Counts, hour_of};
-use hour::{Fault, Hour, Told, listing, read_file, refusal, tell, write_answer};
+use hour::{Fault, Hour, listing, read_file, refusal, status, tell, write_answer};
 use prices::published_text;
 use std::alloc::{AllocError, Global};
+use std::process::ExitCode;
 
 const REFUSED: u64 = 54;
 
@@ -137,11 +138,11 @@ fn run(rt: &HostRuntime) -> Result<(), Fault> {
     hours_at_limits(rt)
 }
 
-fn main(rt: HostRuntime) -> Result<(), Told> {
-    tell(
+fn main(rt: HostRuntime) -> ExitCode {
+    status(tell(
         &rt,
         "trials",
         "trials, where refused/, worked/ and odd/ stand",
         run(&rt),
-    )
+    ))
 }
