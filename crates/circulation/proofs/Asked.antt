@@ -1,7 +1,7 @@
 -- A zone that is asked, on tables: when its closed way can be walked, and what one zone more leaves. Assumes nothing.
 use Rattle.std.proofs.Common.{◌≡◌, ℕ, ◌+◌, ◌<◌, true, sym, ap, ◌∙◌}
 use mathlib.Core.Path.{subst⁻¹}
-use Rattle.std.specs.List.{AllByRecursion as All}
+use Rattle.std.specs.List.{AllByRecursion}
 use Rattle.hour.specs.Market.{Market, Outcome, Proper}
 use Rattle.network.specs.Ways.{Fits}
 use Rattle.paths.proofs.WaysOut.{pays_off}
@@ -20,9 +20,9 @@ ready_pays m o t proper planned v below paid =
 
 pub ready_fits :
     (m : Market) (o : Outcome) (t : Plan) (v d : ℕ) → Ready m t v → d ≡ bottleneck m o (closed_way m t v) →
-    All (Fits m o d) (closed_way m t v)
+    AllByRecursion (Fits m o d) (closed_way m t v)
 ready_fits m o t v d ready is =
-    subst⁻¹ (λ x. All (Fits m o x) (closed_way m t v)) is (bottleneck_fits m o (closed_way m t v) ready.among)
+    subst⁻¹ (λ x. AllByRecursion (Fits m o x) (closed_way m t v)) is (bottleneck_fits m o (closed_way m t v) ready.among)
 
 pub swept_asked :
     (m : Market) (t : Plan) (v : ℕ) (o p q : Outcome) (n r : ℕ) → swept m t v o ≡ tally p n →

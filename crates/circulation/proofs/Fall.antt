@@ -1,6 +1,6 @@
 -- Labels never rise from one search to the next. Assumes nothing.
 use Rattle.std.proofs.Common.{◌≡◌, ℕ, zero, suc, ◌+◌, ◌-◌, ◌<◌, ◌≤◌, true, ltb, ◌≢◌, ◌⊎◌, List, [], ◌∷◌, sym, ap, ◌∙◌, subst, inl, inr, arith}
-use Rattle.std.specs.List.{AllByRecursion as All}
+use Rattle.std.specs.List.{AllByRecursion}
 use Rattle.std.proofs.ByRecursion.{All-weaker}
 use Rattle.std.proofs.lemmas.Bool.{and_parts, cases_lt, ltb-true}
 use Rattle.hour.specs.Market.{Market, Outcome, Proper, at}
@@ -44,7 +44,7 @@ room_back m o d (Backward i) (Backward j) some =
 -- what holds of all free steps, and of the way back along each step of a push, holds of all that are free afterwards
 pub free_pushed :
     (m : Market) (P : Step → Type 0) (d : ℕ) (ss : List Step) (o : Outcome) → ((x : Step) → Free m o x → P x) →
-    All (λ s. P (back s)) ss → (x : Step) → Free m (pushed o ss d) x → P x
+    AllByRecursion (λ s. P (back s)) ss → (x : Step) → Free m (pushed o ss d) x → P x
 free_pushed m P d [] o before all = before
 free_pushed m P d (s ∷ ss) o before all = free_pushed m P d ss (moved o s d) one all.1
   where
@@ -63,7 +63,7 @@ way_begins m t (suc k) v a b c one other = sym one.0 ∙ other.0
 module _ (m : Market) (o : Outcome) (t : Plan) (proper : Proper m) (planned : Planned m o t) where
   -- Idea: the way from a zone is worth its label, so no step of it loses any; and the giver asks for less than that.
   pub closed_held :
-      (v : ℕ) → 0 < at t.worth v → PaysOff m o t v → All (Held m t) (closed_way m t v)
+      (v : ℕ) → 0 < at t.worth v → PaysOff m o t v → AllByRecursion (Held m t) (closed_way m t v)
   closed_held v some off =
       let way = way_shown m o t proper planned v off.zone some in
       let ws = way_out m t (at t.far v) v in

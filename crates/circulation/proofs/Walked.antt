@@ -1,7 +1,7 @@
 -- A push in place, step by step along a closed way. Assumes nothing.
 use Rattle.std.proofs.Common.{◌≡◌, ℕ, zero, suc, ◌+◌, ◌-◌, ◌^◌, ◌<◌, ◌≤◌, List, [], ◌∷◌, length, sym, refl, ap, ◌∙◌, subst, arith}
 use mathlib.Core.Path.{subst⁻¹}
-use Rattle.std.specs.List.{AllByRecursion as All}
+use Rattle.std.specs.List.{AllByRecursion}
 use Rattle.hour.specs.Market.{Market, Outcome, at}
 use Rattle.network.proofs.Rows.{length_bids_in, length_lines_in}
 use Rattle.network.proofs.Ways.{fits_rest}
@@ -55,12 +55,12 @@ module _
 -- what is left to push along, and that it fits
 pub record Walks (m : Market) (t : Plan) (o : Outcome) (v d left zone : ℕ) (q : Outcome) : Type 0 where
   pub rest : pushed q (way_out m t left zone) d ≡ pushed o (closed_way m t v) d
-  pub fits : All (Fits m q d) (way_out m t left zone)
+  pub fits : AllByRecursion (Fits m q d) (way_out m t left zone)
   pub once : Once m (way_out m t left zone)
 
 module _ (m : Market) (t : Plan) (o : Outcome) (v d : ℕ) where
   pub walks_start :
-      (left : ℕ) (s : Step) (q : Outcome) → Once m (closed_way m t v) → All (Fits m o d) (closed_way m t v) →
+      (left : ℕ) (s : Step) (q : Outcome) → Once m (closed_way m t v) → AllByRecursion (Fits m o d) (closed_way m t v) →
       s ≡ giving (item_no m (at t.giver v - 1)) → q ≡ moved o s d → left ≡ at t.far v → Walks m t o v d left v q
   walks_start left s q once fits step_is is all =
       let first = giving (item_no m (at t.giver v - 1)) in

@@ -4,7 +4,7 @@
 --   Placed .. i       item i has its place in the lists of amounts
 --   Ready m t v       the closed way through zone v goes along items of the market, and leaves no node twice
 use Rattle.std.specs.Prelude.{ℕ, ◌<◌, List, length}
-use Rattle.std.specs.List.{AllByRecursion as All}
+use Rattle.std.specs.List.{AllByRecursion}
 use Rattle.hour.specs.Market.{Market}
 use Rattle.network.specs.Network.{Among}
 use Rattle.network.specs.Ways.{item, Once}
@@ -18,7 +18,7 @@ abbrev pub plan_given : Ways → Plan
 plan_given w = plan_in w.worth.now w.far.now w.out.now w.ask.now w.giver.now
 
 pub record Ready (m : Market) (t : Plan) (v : ℕ) : Type 0 where
-  pub among : All (λ s. Among m (item s)) (closed_way m t v)
+  pub among : AllByRecursion (λ s. Among m (item s)) (closed_way m t v)
   pub once : Once m (closed_way m t v)
 
 -- the item has its place in the lists of amounts

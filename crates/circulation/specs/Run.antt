@@ -5,7 +5,7 @@
 --   Pays m o ss d      d fits along the closed way ss, which leaves no node twice and gains more than it costs
 --   Pushes m n o p     n such pushes, one after the other, lead from o to p
 use Rattle.std.specs.Prelude.{◌≡◌, ℕ, zero, suc, ◌+◌, ◌<◌, true, List, is_some, None}
-use Rattle.std.specs.List.{AllByRecursion as All}
+use Rattle.std.specs.List.{AllByRecursion}
 use Rattle.hour.specs.Market.{Market, Outcome}
 use Rattle.network.specs.Ways.{Links, Once, Fits, way_cost, way_gain, pushed}
 use Rattle.network.specs.declared.arcs.Step.{Step}
@@ -26,7 +26,7 @@ pub record Pays (m : Market) (o : Outcome) (ss : List Step) (d : ℕ) : Type 0 w
   pub closed : Links m node ss node
   pub once : Once m ss
   pub some : 0 < d
-  pub fits : All (Fits m o d) ss
+  pub fits : AllByRecursion (Fits m o d) ss
   pub gains : way_cost m ss < way_gain m ss
 
 abbrev pub Pushes : Market → ℕ → Outcome → Outcome → Type 0

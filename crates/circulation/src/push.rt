@@ -7,7 +7,7 @@ ghost use Rattle.network.specs.Ways.{Fits, Once, put, carry, moved, pushed};
 ghost use Rattle.paths.specs.Plan.{closed_way};
 ghost use Rattle.paths.specs.Search.{market_given, Bounded, Spaced};
 ghost use Rattle.circulation.specs.Given.{Placed, plan_given};
-ghost use Rattle.std.specs.List.{AllByRecursion as All};
+ghost use Rattle.std.specs.List.{AllByRecursion};
 
 use crate::steps::{end_of, step_in, step_out};
 use network::{Item, Step, Tables, number_at};
@@ -81,7 +81,7 @@ pub fn push(
     requires spaced { Spaced t bought.old sold.old flow.old }
     requires some { 0 < d }
     requires once { Once (market_given t) (closed_way (market_given t) (plan_given w) v) }
-    requires fits { All (Fits (market_given t) (outcome_in bought.old sold.old flow.old) d) (closed_way (market_given t) (plan_given w) v) }
+    requires fits { AllByRecursion (Fits (market_given t) (outcome_in bought.old sold.old flow.old) d) (closed_way (market_given t) (plan_given w) v) }
     ensures { outcome_in bought.new sold.new flow.new ≡ pushed (outcome_in bought.old sold.old flow.old) (closed_way (market_given t.entry) (plan_given w.entry) v) d }
 {
     move_along(t, step_in(t, w, v), d, bought, sold, flow);

@@ -63,7 +63,13 @@ fn words_of(sort: Sort) -> Words<'static>
     }
 }
 
-fn item_row(text: &mut String, words: Words<'_>, k: usize, amount: u64, money: i64) -> Result<(), AllocError>
+fn item_row(
+    text: &mut String,
+    words: Words<'_>,
+    k: usize,
+    amount: u64,
+    money: i64,
+) -> Result<(), AllocError>
     ensures { Adds result text.old (item_row (worded words.entry) k amount money) text.new }
 {
     let Words { sort, has, pays } = words;

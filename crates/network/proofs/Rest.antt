@@ -1,6 +1,6 @@
 -- Prices at rest: no free step can raise one. Assumes nothing.
 use Rattle.std.proofs.Common.{ℕ, ◌+◌, ◌<◌, ◌≤◌, List, [], ◌∷◌, ap, inl, inr, arith}
-use Rattle.std.specs.List.{AllByRecursion as All}
+use Rattle.std.specs.List.{AllByRecursion}
 use Rattle.std.proofs.lemmas.Bool.{cases_lt}
 use Rattle.hour.specs.Market.{Market, Outcome, Proper, Feasible, Settled, at}
 use Rattle.network.specs.Network.{Among, hub, capacity, carried, price, unit_cost, unit_value, ContentItem}
@@ -49,7 +49,7 @@ settled_at_rest m o ps proper f rest = settled_by_item m o ps content
 -- Idea: add up what the steps' ends and beginnings are worth; between the ends all cancel.
 pub free_way_le :
     (m : Market) (o : Outcome) (ps : List ℕ) → Resting m o ps → (a : ℕ) (ss : List Step) (b : ℕ) → Links m a ss b →
-    All (Free m o) ss → price m ps b + way_gain m ss ≤ price m ps a + way_cost m ss
+    AllByRecursion (Free m o) ss → price m ps b + way_gain m ss ≤ price m ps a + way_cost m ss
 free_way_le m o ps rest a [] b links free = omega (arith, ap (price m ps) links)
 free_way_le m o ps rest a (s ∷ ss) b links free =
     omega (

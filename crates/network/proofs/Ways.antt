@@ -1,6 +1,6 @@
 -- What a push along a way does to limits, balances and worth. Assumes nothing.
 use Rattle.std.proofs.Common.{◌≡◌, ℕ, ◌+◌, ◌-◌, ◌*◌, ◌<◌, ◌≤◌, ◌≢◌, ◌⊎◌, List, [], ◌∷◌, sym, refl, ap, ◌∙◌, inl, inr, mul-le-mul_right, add-mul, mul-add, sub-add_cancel, arith}
-use Rattle.std.specs.List.{AllByRecursion as All}
+use Rattle.std.specs.List.{AllByRecursion}
 use Rattle.std.proofs.lemmas.Bool.{cases_eq}
 use Rattle.hour.specs.Market.{Market, Outcome, at, worth}
 use Rattle.network.specs.Network.{Among, tail, head, capacity, cost, gain, carried, weighed, tag, inflow, outflow}
@@ -58,7 +58,7 @@ fits_moved m o d s t apart f =
 
 pub fits_rest :
     (m : Market) (o : Outcome) (d : ℕ) (s : Step) (ts : List Step) →
-    All (λ t. start m t ≢ start m s) ts → All (Fits m o d) ts → All (Fits m (moved o s d) d) ts
+    AllByRecursion (λ t. start m t ≢ start m s) ts → AllByRecursion (Fits m o d) ts → AllByRecursion (Fits m (moved o s d) d) ts
 fits_rest m o d s [] apart fits = tt
 fits_rest m o d s (t ∷ ts) apart fits =
     (fits_moved m o d s t apart.0 fits.0, fits_rest m o d s ts apart.1 fits.1)
@@ -77,7 +77,7 @@ within_moved m o d (Backward i) limits f j h =
     [ inl (e, is) ↦ omega (arith, limits i f.among, ap (capacity m) e) | inr same ↦ omega (arith, limits j h) ]
 
 pub within_pushed :
-    (m : Market) (d : ℕ) (ss : List Step) (o : Outcome) → Within m o → Once m ss → All (Fits m o d) ss →
+    (m : Market) (d : ℕ) (ss : List Step) (o : Outcome) → Within m o → Once m ss → AllByRecursion (Fits m o d) ss →
     Within m (pushed o ss d)
 within_pushed m d [] o limits once fits = limits
 within_pushed m d (s ∷ ss) o limits once fits =
@@ -111,7 +111,7 @@ weighed_moved m w o d (Backward i) f =
     omega (arith, weighed_carry m w o i (carried o i - d) f.among, mul-add (w i) (carried o i - d) d, back)
 
 pub weighed_pushed :
-    (m : Market) (w : Item → ℕ) (d : ℕ) (ss : List Step) (o : Outcome) → Once m ss → All (Fits m o d) ss →
+    (m : Market) (w : Item → ℕ) (d : ℕ) (ss : List Step) (o : Outcome) → Once m ss → AllByRecursion (Fits m o d) ss →
     weighed m w (pushed o ss d) + lowered w ss * d ≡ weighed m w o + raised w ss * d
 weighed_pushed m w d [] o once fits = refl
 weighed_pushed m w d (s ∷ ss) o once fits =

@@ -15,7 +15,7 @@
 -- Of two sides of an order, what is subtracted stands on the other side: naturals only.
 use Rattle.std.specs.Prelude.{◌≡◌, ℕ, ◌+◌, ◌*◌, ◌<◌, ◌≤◌, List, [], ◌∷◌, length}
 use Rattle.hour.specs.Market.{Market, Outcome, Proper, Feasible, Settled, at, worth}
-use Rattle.std.specs.List.{AllByRecursion as All}
+use Rattle.std.specs.List.{AllByRecursion}
 use Rattle.network.specs.declared.arcs.Step.{Step}
 use Rattle.network.specs.Ways.{Links, Once, Fits, way_cost, way_gain, pushed, Resting, Reached}
 use Rattle.network.specs.Hours.{Holds, narrow, wide, in_part, tied, unsold, apart, one_each, traded}
@@ -64,7 +64,7 @@ pub record PushDone (m : Market) (o p : Outcome) (ss : List Step) (d : ℕ) : Ty
 abbrev pub Push : Type 0
 Push =
     (m : Market) (o : Outcome) (a d : ℕ) (ss : List Step) → Feasible m o → Links m a ss a → Once m ss →
-    All (Fits m o d) ss → PushDone m o (pushed o ss d) ss d
+    AllByRecursion (Fits m o d) ss → PushDone m o (pushed o ss d) ss d
 
 pub record RestSettles (m : Market) (o : Outcome) (ps : List ℕ) : Type 0 where
   pub settles : Resting m o ps → Settled m o ps

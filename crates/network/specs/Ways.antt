@@ -18,7 +18,7 @@
 --
 -- A way is a list of steps that links; it is closed if it ends where it begins.
 use Rattle.std.specs.Prelude.{◌≡◌, ℕ, zero, suc, ◌+◌, ◌-◌, ◌<◌, ◌≤◌, ◌≢◌, ◌⊎◌, List, [], ◌∷◌}
-use Rattle.std.specs.List.{AllByRecursion as All}
+use Rattle.std.specs.List.{AllByRecursion}
 use Rattle.hour.specs.Market.{Market, Outcome, at}
 use Rattle.network.specs.Network.{Among, hub, tail, head, capacity, cost, gain, carried, price}
 use Rattle.network.specs.declared.arcs.Item.{Item}
@@ -64,7 +64,7 @@ Links m a (s ∷ ss) b = (start m s ≡ a) × Links m (finish m s) ss b
 
 abbrev pub Once : Market → List Step → Type 0
 Once m [] = Unit {0}
-Once m (s ∷ ss) = All (λ t. start m t ≢ start m s) ss × Once m ss
+Once m (s ∷ ss) = AllByRecursion (λ t. start m t ≢ start m s) ss × Once m ss
 
 abbrev pub way_cost : Market → List Step → ℕ
 way_cost m [] = 0
@@ -102,7 +102,7 @@ Resting m o ps =
 pub record FreeWay (m : Market) (o : Outcome) (a b v : ℕ) : Type 0 where
   pub steps : List Step
   pub links : Links m a steps b
-  pub free : All (Free m o) steps
+  pub free : AllByRecursion (Free m o) steps
   pub worth : v + way_cost m steps ≡ way_gain m steps
 
 abbrev pub Reached : Market → Outcome → List ℕ → ℕ → Type 0

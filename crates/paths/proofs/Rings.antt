@@ -1,6 +1,6 @@
 -- Closed ways that avoid the hub neither cost nor gain anything. Assumes nothing.
 use Rattle.std.proofs.Common.{◌≡◌, ℕ, ◌≢◌, List, [], ◌∷◌, sym, refl, ◌∙◌, arith}
-use Rattle.std.specs.List.{AllByRecursion as All}
+use Rattle.std.specs.List.{AllByRecursion}
 use Rattle.hour.specs.Market.{Market}
 use Rattle.network.specs.Network.{hub}
 use Rattle.network.specs.Ways.{start, finish, Links, way_cost, way_gain}
@@ -10,7 +10,7 @@ use Rattle.network.specs.declared.arcs.Step.TheVariants.{Forward, Backward}
 use Rattle.paths.specs.Promises.{RingsEven}
 
 abbrev Avoids : Market → List Step → Type 0
-Avoids m ss = All (λ s. start m s ≢ hub m) ss
+Avoids m ss = AllByRecursion (λ s. start m s ≢ hub m) ss
 
 -- a way from the hub leaves it, unless it ends there
 from_hub : (m : Market) (ss : List Step) (b : ℕ) → Links m (hub m) ss b → Avoids m ss → b ≢ hub m → ⊥

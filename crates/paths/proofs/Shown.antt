@@ -1,6 +1,6 @@
 -- What tables show: where no zone pays, the lowest prices; else a closed way that gains. Assumes nothing.
 use Rattle.std.proofs.Common.{◌≡◌, ℕ, ◌+◌, ◌-◌, ◌<◌, ◌≤◌, false, ltb, List, [], ◌∷◌, Some, None, Option, refl, ap, ◌∙◌, inl, inr, arith}
-use Rattle.std.specs.List.{AllByRecursion as All}
+use Rattle.std.specs.List.{AllByRecursion}
 use Rattle.std.proofs.lemmas.List.{get_or-map}
 use Rattle.std.proofs.lemmas.Bool.{cases_lt, and_cases, ltb-false}
 use Rattle.hour.proofs.First.{when_none, first_none}
@@ -38,7 +38,7 @@ module _ (m : Market) (o : Outcome) (t : Plan) (proper : Proper m) (p : Planned 
 
   -- Idea: from a zone whose label is 0, lines lead to such zones only, and none of these has a taker.
   nowhere :
-      (v : ℕ) (ss : List Step) → v < m.zones → at t.worth v ≡ 0 → Links m v ss (hub m) → All (Free m o) ss → ⊥
+      (v : ℕ) (ss : List Step) → v < m.zones → at t.worth v ≡ 0 → Links m v ss (hub m) → AllByRecursion (Free m o) ss → ⊥
   nowhere v [] below none links free = omega arith
   nowhere v (s ∷ ss) below none links free =
       let here : at t.worth (start m s) ≡ 0 = ap (at t.worth) links.0 ∙ none in

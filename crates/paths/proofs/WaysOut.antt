@@ -4,7 +4,7 @@
 --                       nothing, gains what the label says, and leaves zones only, each nearer the hub than the last
 use Rattle.std.proofs.Common.{◌≡◌, ℕ, zero, suc, ◌+◌, ◌-◌, ◌<◌, ◌≤◌, true, eqb, ◌≢◌, List, ◌∷◌, length, refl, ap, ◌∙◌, subst, arith}
 use mathlib.Core.Path.{subst⁻¹}
-use Rattle.std.specs.List.{AllByRecursion as All}
+use Rattle.std.specs.List.{AllByRecursion}
 use Rattle.std.proofs.ByRecursion.{All-weaker}
 use Rattle.std.proofs.lemmas.Bool.{and_parts, ltb-true, cond-true, cond-false, cond_both, eq-eqb, ne_eqb}
 use Rattle.hour.specs.Market.{Market, Outcome, Proper, at, line}
@@ -46,7 +46,7 @@ step_out_line m v l proper number =
 -- a closed way through the hub that gains more than it costs
 record Gaining (m : Market) (o : Outcome) (ss : List Step) : Type 0 where
   links : Links m (hub m) ss (hub m)
-  free : All (Free m o) ss
+  free : AllByRecursion (Free m o) ss
   once : Once m ss
   gains : way_cost m ss < way_gain m ss
 
@@ -123,10 +123,10 @@ module _ (m : Market) (o : Outcome) (t : Plan) (proper : Proper m) (p : Planned 
 
   pub record WayOf (k v : ℕ) : Type 0 where
     pub links : Links m v (way_out m t k v) (hub m)
-    pub free : All (Free m o) (way_out m t k v)
+    pub free : AllByRecursion (Free m o) (way_out m t k v)
     pub costs : way_cost m (way_out m t k v) ≡ 0
     pub gains : way_gain m (way_out m t k v) ≡ at t.worth v - 1
-    pub leaves : All (Leaves k) (way_out m t k v)
+    pub leaves : AllByRecursion (Leaves k) (way_out m t k v)
     pub once : Once m (way_out m t k v)
 
   -- Idea: the way's first step is the table's; the rest is the way of the next zone, and has fewer lines to go.

@@ -11,7 +11,7 @@
 --   RingsEven         no closed way that avoids the hub gains or costs anything
 --   LowestLabels      where no zone pays, the labels are the lowest prices, 0 where no way leads to the hub
 use Rattle.std.specs.Prelude.{◌≡◌, ℕ, ◌+◌, ◌-◌, ◌<◌, ◌≤◌, ◌≢◌, List, map, length, Some, None, Option}
-use Rattle.std.specs.List.{AllByRecursion as All}
+use Rattle.std.specs.List.{AllByRecursion}
 use Rattle.hour.specs.Market.{Market, Outcome, Proper, Feasible, at}
 use Rattle.network.specs.Network.{hub}
 use Rattle.network.specs.Prices.{LowestOf, Lowest}
@@ -22,22 +22,22 @@ use Rattle.paths.specs.Plan.{Plan, Planned, closed_way, way_out, first_paying}
 -- the way from zone v that the tables show, worth c
 pub record WayShown (m : Market) (o : Outcome) (t : Plan) (v c : ℕ) : Type 0 where
   pub links : Links m v (way_out m t (at t.far v) v) (hub m)
-  pub free : All (Free m o) (way_out m t (at t.far v) v)
+  pub free : AllByRecursion (Free m o) (way_out m t (at t.far v) v)
   pub worth : c + way_cost m (way_out m t (at t.far v) v) ≡ way_gain m (way_out m t (at t.far v) v)
 
 pub record Shortest (m : Market) (o : Outcome) (t : Plan) : Type 0 where
-  pub no_gain : (a : ℕ) (ss : List Step) → Links m a ss a → All (Free m o) ss → way_gain m ss ≤ way_cost m ss
+  pub no_gain : (a : ℕ) (ss : List Step) → Links m a ss a → AllByRecursion (Free m o) ss → way_gain m ss ≤ way_cost m ss
   pub way : (v : ℕ) → v < m.zones → 0 < at t.worth v → WayShown m o t v (at t.worth v - 1)
   pub best :
-      (v : ℕ) → v < m.zones → (ss : List Step) → Links m v ss (hub m) → All (Free m o) ss →
+      (v : ℕ) → v < m.zones → (ss : List Step) → Links m v ss (hub m) → AllByRecursion (Free m o) ss →
       way_gain m ss ≤ at t.worth v - 1 + way_cost m ss
   pub nowhere :
-      (v : ℕ) → v < m.zones → at t.worth v ≡ 0 → (ss : List Step) → Links m v ss (hub m) → All (Free m o) ss → ⊥
+      (v : ℕ) → v < m.zones → at t.worth v ≡ 0 → (ss : List Step) → Links m v ss (hub m) → AllByRecursion (Free m o) ss → ⊥
 
 pub record PaysOff (m : Market) (o : Outcome) (t : Plan) (v : ℕ) : Type 0 where
   pub zone : v < m.zones
   pub links : Links m (hub m) (closed_way m t v) (hub m)
-  pub free : All (Free m o) (closed_way m t v)
+  pub free : AllByRecursion (Free m o) (closed_way m t v)
   pub once : Once m (closed_way m t v)
   pub gains : way_cost m (closed_way m t v) < way_gain m (closed_way m t v)
 
@@ -57,7 +57,7 @@ PlanShown =
 
 abbrev pub RingsEven : Type 0
 RingsEven =
-    (m : Market) (a : ℕ) (ss : List Step) → Links m a ss a → All (λ s. start m s ≢ hub m) ss →
+    (m : Market) (a : ℕ) (ss : List Step) → Links m a ss a → AllByRecursion (λ s. start m s ≢ hub m) ss →
     (way_gain m ss ≡ 0) × (way_cost m ss ≡ 0)
 
 -- what the labels say as prices

@@ -8,7 +8,7 @@ pub loop-k-preserved : goal.loop-k-preserved
 loop-k-preserved c =
     item_added c.args.amounts.now c.args.ledger.now c.args.first _
     (worded c.words_of-words.result) c.loop-k.k c.cast_signed.result _ _
-    (c.type-inv.ledger (c.args.first + c.loop-k.k)).fits c.cast_signed.ensures
+    (c.type_inv.ledger (c.args.first + c.loop-k.k)).fits c.cast_signed.ensures
     c.loop-k.invariant c.in_ok-item_row.ensures
 
 pub returns : goal.returns
