@@ -1,4 +1,6 @@
 // check_hour HOUR RESULT: says whether the hour keeps the rules. The result is read whole, and not looked at yet.
+#![tactic(auto)]
+
 ghost use Rattle.std.specs.Prelude.{◌≡◌, [], ◌∷◌, IfOk, Some, string_bytes};
 ghost use Rattle.check_hour.specs.Verdict.{verdict_on};
 ghost use Rattle.hour.specs.Bytes.{refusal_of};

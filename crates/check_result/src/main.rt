@@ -1,5 +1,7 @@
 // check_result HOUR RESULT: says whether a published result of an hour stands. Status 0 where it is accepted, its prices are the lowest
 // and all its rows follow.
+#![tactic(auto)]
+
 ghost use Rattle.std.specs.Prelude.{◌≡◌, [], ◌∷◌, IfOk, string_bytes};
 ghost use Rattle.checker.specs.Reports.{report_shown};
 ghost use Rattle.hour.specs.Text.{row};

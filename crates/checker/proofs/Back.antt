@@ -1,13 +1,12 @@
 -- What was written is read back. Assumes nothing.
-use Rattle.std.proofs.Common.{◌≡◌, ℕ, zero, suc, ◌+◌, ◌-◌, ◌*◌, ◌/◌, ◌%◌, ◌^◌, ◌<◌, ◌≤◌, Bool, true, false, cond, eqb, ltb, leb, List, [], ◌∷◌, ◌++◌, ℤ, pos, negsuc, Some, None, codes, decimal, sym, refl, ap, ◌∙◌, inl, inr, append_assoc, arith, ltb-false, ltb-true, eq-eqb, ne_eqb, le-leb}
+use Rattle.std.proofs.Common.{◌≡◌, ℕ, zero, suc, ◌+◌, ◌-◌, ◌*◌, ◌/◌, ◌%◌, ◌^◌, ◌<◌, ◌≤◌, Bool, true, false, cond, eqb, ltb, List, [], ◌∷◌, ◌++◌, ℤ, pos, negsuc, Some, None, codes, decimal, sym, refl, ap, ◌∙◌, append_assoc, arith, ltb-false, ltb-true, eq-eqb, ne_eqb, le-leb}
 use lib.Signed.{mag}
 use Rattle.std.proofs.lemmas.Fmt.{decimal_by_steps, decimal_digit}
-use Rattle.std.proofs.lemmas.Bool.{cases_Bool}
 use Rattle.std.specs.Char.{is_ascii_digit}
 use Rattle.std.specs.Fmt.{signed_decimal}
 use Rattle.hour.specs.Text as text
-use Rattle.checker.specs.Reading.{Read, ◌then◌, after, behind, digits, number, below, above, whole, index, digit, widest, largest}
-use Rattle.checker.specs.Reading.{hundredths, price, owed_price, paid_price}
+use Rattle.checker.specs.Reading.{Read, after, digits, number, whole, index, digit, widest, largest}
+use Rattle.checker.specs.Reading.{hundredths, price}
 
 digit_is : (d : ℕ) → d < 10 → is_ascii_digit (48 + d) ≡ true
 digit_is d small = grind arith

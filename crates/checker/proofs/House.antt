@@ -1,5 +1,5 @@
 -- What the entry on an hour's bytes leaves is accepted, and its prices are found the lowest. Assumes nothing.
-use Rattle.std.proofs.Common.{◌≡◌, ℕ, List, sym, arith}
+use Rattle.std.proofs.Common.{ℕ, List, sym, arith}
 use Rattle.hour.proofs.Kept.{kept, buys_count, sells_count, lines_count}
 use Rattle.hour.specs.Bytes.{market_of}
 use Rattle.network.proofs.Agree.{feasible_agree, settled_agree, lowest_agree, fronts_agree, front_prices}

@@ -1,35 +1,32 @@
 -- Whatever is reported of the text that the house publishes is that it is accepted, and lowest. Assumes nothing.
-use Rattle.std.proofs.Common.{◌≡◌, ℕ, ◌+◌, ◌*◌, ◌^◌, ◌<◌, true, List, length, get_or, ℤ, pos, negsuc, ◌-ℤ◌, Some, None, Ok, Err, Option, Result, sym, refl, ap, ◌∙◌, subst, ap₂, zero-add, arith}
+use Rattle.std.proofs.Common.{◌≡◌, ℕ, ◌+◌, ◌*◌, ◌^◌, ◌<◌, true, List, length, get_or, ℤ, pos, negsuc, ◌-ℤ◌, Some, None, Ok, Option, Result, sym, refl, ap, ◌∙◌, subst, ap₂, zero-add, arith}
 use Rattle.std.proofs.lemmas.List.FromFn.{get_or-map-range_with_len}
 use Rattle.std.proofs.lemmas.Bool.{eq-eqb, not_from_true}
 use Rattle.hour.proofs.First.{else_none, when_false, first_all}
 use Rattle.hour.proofs.Kept.{kept}
 use Rattle.hour.proofs.Total.{total_same}
-use Rattle.hour.specs.Bytes.{market_of, refusal_of}
+use Rattle.hour.specs.Bytes.{market_of}
 use Rattle.hour.specs.Listed.{listed}
 use Rattle.hour.specs.Market.{Market, Outcome, Proper, Feasible, Settled, at, bid, worth}
-use Rattle.hour.specs.Rules.{KeepsRules}
 use Rattle.hour.specs.declared.items.Bid.{Bid}
 use Rattle.hour.specs.declared.refusals.Refusal.{Refusal}
 use Rattle.hour.specs.declared.refusals.Sort.{Sort}
 use Rattle.hour.specs.declared.refusals.Sort.TheVariants as sorts
 use Rattle.network.proofs.Agree.{Agree, AgreePrices, feasible_agree, settled_agree, lowest_agree}
-use Rattle.network.specs.Network.{carried}
 use Rattle.network.specs.Prices.{Lowest}
 use Rattle.network.specs.declared.arcs.Item.TheVariants.{Buy, Sell, Line}
 use Rattle.circulation.proofs.Few.{top_small}
 use Rattle.prices.proofs.Bounds.{proper_kept}
 use Rattle.ledger.proofs.Booked.{money_agree}
 use Rattle.ledger.proofs.Limits.{among_item, payable_lowest}
-use Rattle.ledger.specs.Money.{item, count, money, worth_by}
+use Rattle.ledger.specs.Money.{item, count, worth_by}
 use Rattle.ledger.specs.Published as texts
 use Rattle.checker.proofs.Breaches.{none_broken}
 use Rattle.checker.proofs.TextBack.{read_back}
-use Rattle.checker.specs.Acceptance.{broken_of}
-use Rattle.checker.specs.Follows.{same_number, money_at, figure_wrong, rows_wrong, worth_wrong, counts_in, outcome_said, wrong_in}
+use Rattle.checker.specs.Follows.{same_number, money_at, figure_wrong, rows_wrong, counts_in, outcome_said, wrong_in}
 use Rattle.checker.specs.Form.{Saying, text_at, first_line}
 use Rattle.checker.specs.Promises.{Says, table_of, HouseText}
-use Rattle.checker.specs.Telling.{LowerSaid, AcceptedWith, JudgedAs, SaidAs, ReadAs, ReportedAs}
+use Rattle.checker.specs.Telling.{LowerSaid, JudgedAs, SaidAs, ReadAs, ReportedAs}
 use Rattle.checker.specs.declared.reports.Report.{Report}
 use Rattle.checker.specs.declared.reports.Report.TheVariants as reports
 use Rattle.checker.specs.declared.verdict.Broken.{Broken}

@@ -1,5 +1,5 @@
 -- Numbers at the front of a text. Assumes nothing.
-use Rattle.std.proofs.Common.{◌≡◌, ℕ, List, [], ◌∷◌, length, Some, None, refl, arith}
+use Rattle.std.proofs.Common.{◌≡◌, ℕ, List, [], ◌∷◌, length, Some, refl, arith}
 use Rattle.checker.specs.Reading.{digits}
 
 -- no text is left

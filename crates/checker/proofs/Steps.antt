@@ -1,5 +1,5 @@
 -- Rows that are read one after the other. Assumes nothing.
-use Rattle.std.proofs.Common.{◌≡◌, ℕ, zero, suc, ◌+◌, ◌<◌, ◌≤◌, leb, List, [], ◌∷◌, ◌++◌, length, ℤ, Some, None, Ok, Err, Result, sym, refl, ap, ◌∙◌, subst, inl, inr, add-one, arith, leb-false, leb-true}
+use Rattle.std.proofs.Common.{◌≡◌, ℕ, zero, suc, ◌+◌, ◌<◌, ◌≤◌, leb, List, [], ◌∷◌, ◌++◌, length, ℤ, Some, None, Ok, Err, Result, refl, ap, ◌∙◌, inl, inr, add-one, arith, leb-false, leb-true}
 use Rattle.std.proofs.lemmas.Bool.{cases_Bool}
 use Rattle.checker.specs.Reading.{Read}
 use Rattle.hour.specs.declared.refusals.Sort.TheVariants as sorts

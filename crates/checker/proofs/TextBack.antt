@@ -1,5 +1,5 @@
 -- What is published is read as what it says. Assumes nothing.
-use Rattle.std.proofs.Common.{◌≡◌, ℕ, ◌^◌, ◌<◌, ◌≤◌, List, [], ◌∷◌, ◌++◌, ℤ, pos, negsuc, nat_abs, Ok, sym, refl, ap, ◌∙◌, append_assoc, append-nil, arith}
+use Rattle.std.proofs.Common.{◌≡◌, ℕ, ◌^◌, ◌<◌, ◌≤◌, List, [], ◌++◌, ℤ, pos, negsuc, nat_abs, Ok, sym, refl, ap, ◌∙◌, append_assoc, append-nil, arith}
 use lib.Signed.{mag}
 use Rattle.hour.specs.Listed.{listed}
 use Rattle.hour.specs.Market.{Market, Outcome, at}
@@ -11,8 +11,8 @@ use Rattle.ledger.specs.Money.{item, count, money, worth_by, Payable}
 use Rattle.ledger.specs.Text.{worth_row, zone_rows, sort_rows, result_of}
 use Rattle.ledger.proofs.Limits.{among_item, carried_small, count_small, size_item, worth_small}
 use Rattle.checker.specs.Follows.{counts_in}
-use Rattle.checker.specs.Form.{Table, Prices, Saying, table, priced, saying, items_at, text_at}
-use Rattle.checker.specs.Promises.{table_of, Says, ReadsBack, ReadBack}
+use Rattle.checker.specs.Form.{Table, Saying, table, priced, saying, items_at, text_at}
+use Rattle.checker.specs.Promises.{table_of, ReadsBack, ReadBack}
 use Rattle.checker.proofs.RowsBack.{worth_back, zones_back, items_back}
 use Rattle.checker.proofs.Steps.{text_read}
 

@@ -1,5 +1,5 @@
 -- A word at the front of a text. Assumes nothing.
-use Rattle.std.proofs.Common.{◌≡◌, ℕ, Bool, true, false, cond, eqb, List, [], ◌∷◌, ◌++◌, Some, None, Option, sym, refl, ap, ◌∙◌, inl, inr, arith, Bor, eq-eqb, eqb-true, MatchOption}
+use Rattle.std.proofs.Common.{◌≡◌, ℕ, Bool, true, false, cond, eqb, List, [], ◌∷◌, ◌++◌, Some, None, Option, sym, refl, ap, ◌∙◌, arith, Bor, eq-eqb, eqb-true, MatchOption}
 use Rattle.checker.specs.Reading.{rest_seen, after}
 
 pub after_append : (w rest : List ℕ) → after w (w ++ rest) ≡ Some rest

@@ -11,10 +11,10 @@
 --   items_at s l n bs     the rows of n buys, sells or lines
 --   Saying                all that a text says
 --   text_at n bs          what a text for so many zones, buys, sells and lines says; or its first line that is not in the form
---   AnswersAs r d        an answer is what a definition says, unless memory was wanting
+--   AnswersAs r d         an answer is what a definition says, unless memory was wanting
 --
 -- Lines count from 1. A line that is missing is the one behind the last; so is text behind the last row.
-use Rattle.std.specs.Prelude.{◌≡◌, ℕ, zero, suc, ◌+◌, List, [], ◌∷◌, ◌++◌, ℤ, Some, None, Ok, Err, vec_items, codes, Option, Result, MatchResult}
+use Rattle.std.specs.Prelude.{◌≡◌, ℕ, zero, suc, ◌+◌, List, [], ◌∷◌, ◌++◌, ℤ, Some, None, Ok, Err, vec_items, codes, Result, MatchResult}
 use Rattle.hour.specs.declared.refusals.Sort.{Sort}
 use Rattle.hour.specs.declared.refusals.Sort.TheVariants as sorts
 use Rattle.checker.specs.Reading.{Read, ◌then◌, after, number, whole, index, price, largest}

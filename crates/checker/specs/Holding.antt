@@ -1,14 +1,14 @@
 -- Which prices cannot be lower, and which can. Assumes nothing: these are definitions.
 --
---   BuyHolds m o ps z k    buy k of zone z bids exactly the zone's price, and has room for more
---   SellHolds m o ps z k   sell k of zone z asks exactly the zone's price, and has sold something
---   LineOut m o ps z w l   line l leads from z to w, has room for more, and joins zones of one price
---   LineIn m o ps z w l    line l leads from w to z, carries something, and joins zones of one price
+--   BuyHolds m o ps z k     buy k of zone z bids exactly the zone's price, and has room for more
+--   SellHolds m o ps z k    sell k of zone z asks exactly the zone's price, and has sold something
+--   LineOut m o ps z w l    line l leads from z to w, has room for more, and joins zones of one price
+--   LineIn m o ps z w l     line l leads from w to z, carries something, and joins zones of one price
 --   Held m o ps z           the price of z is held up: it is 0, or a bid holds it, or such a line joins z to a zone that is
 --                           held up
---   LowerAt m o ps z       a list that settles the outcome o and is lower than ps in zone z
---   NowhereLower m ps z    no list that settles an outcome that can be carried out is lower than ps in zone z
---   FirstLower m o ps z    z is the first zone that could be lower
+--   LowerAt m o ps z        a list that settles the outcome o and is lower than ps in zone z
+--   NowhereLower m ps z     no list that settles an outcome that can be carried out is lower than ps in zone z
+--   FirstLower m o ps z     z is the first zone that could be lower
 --
 -- A zone that could be lower may be so only together with others.
 use Rattle.std.specs.Prelude.{◌≡◌, ℕ, ◌<◌, ◌≤◌, List, length}

@@ -7,8 +7,8 @@
 --   lowness_of              the answer that marks give, where so many numbers were lent for them
 --   Answerable              nothing is refused, the outcome can be carried out, and the prices settle it
 --   Left bs o ps old new    what is left in the lent marks: as they were, unless the question has an answer
---   LowerFirst             the question has an answer, and z is the first zone that could be lower
---   LowestAll              the question has an answer, and no list that settles is lower anywhere
+--   LowerFirst              the question has an answer, and z is the first zone that could be lower
+--   LowestAll               the question has an answer, and no list that settles is lower anywhere
 use Rattle.std.specs.Prelude.{◌≡◌, ℕ, ◌<◌, ◌≤◌, ◌⊎◌, List, length, Some, None, Option, ◌==◌}
 use Rattle.hour.specs.Bytes.{head_of, market_of, refusal_with}
 use Rattle.hour.specs.First.{when, ◌else◌, first}

@@ -1,15 +1,15 @@
 -- What the checker promises, each a statement whose proof a contract of this crate asks for. Assumes nothing.
 --
---   AcceptedBest        what the checker accepts is worth no less than any other outcome that can be carried out
+--   AcceptedBest         what the checker accepts is worth no less than any other outcome that can be carried out
 --   Published bs o ps    an hour, with an outcome that can be carried out and prices that settle it, lists long enough
---   PublishedAccepted   such a result is accepted
---   LowestFound         if its prices are the lowest, the answer about them is that they are
---   HouseAccepted       what the entry on an hour's bytes leaves of an hour that it cleared is accepted
---   HouseLowest         and its prices are found the lowest
---   HouseText           whatever is reported of the text that the house publishes of an hour is: accepted, and lowest
---   OneLowness          one answer about prices, with one list of marks, meets the contract
+--   PublishedAccepted    such a result is accepted
+--   LowestFound          if its prices are the lowest, the answer about them is that they are
+--   HouseAccepted        what the entry on an hour's bytes leaves of an hour that it cleared is accepted
+--   HouseLowest          and its prices are found the lowest
+--   HouseText            whatever is reported of the text that the house publishes of an hour is: accepted, and lowest
+--   OneLowness           one answer about prices, with one list of marks, meets the contract
 --   Says m o ps n t      a text says the amounts, the prices, the money of each row, the worth and the count of pushes
---   ReadBack            what is published of an outcome and its prices is read as just that
+--   ReadBack             what is published of an outcome and its prices is read as just that
 --
 -- Of two sides of an order, what is subtracted stands on the other side: naturals only.
 use Rattle.std.specs.Prelude.{◌≡◌, ℕ, ◌+◌, ◌^◌, ◌<◌, ◌≤◌, List, length, None, Ok}

@@ -8,7 +8,7 @@
 --   held_test               the price of z is 0, or something holds it up
 --   next_held               the first zone without a mark that is held up
 --   Wiped n old new         the first n numbers at 0, and the others as they were
---   LeftIn                 what is left in the marks of an hour that is not refused
+--   LeftIn                  what is left in the marks of an hour that is not refused
 use Rattle.std.specs.Prelude.{◌≡◌, ℕ, ◌<◌, ◌≤◌, Bool, ◌&&◌, ◌||◌, List, is_some, Some, None, Option, ◌==◌, nat_lt}
 use Rattle.hour.specs.First.{when, first}
 use Rattle.hour.specs.Market.{Market, Outcome, at, bid, line}

@@ -1,10 +1,10 @@
 -- What is said of a text that was published for an hour. Assumes nothing: these are definitions.
 --
---   LowerSaid m o ps l    no list that settles is lower anywhere; or the first zone that could be lower
---   AcceptedWith          a result is accepted, with what is true of its prices
---   JudgedAs              a broken rule, or else a row that does not follow, or else that a result is accepted
---   RowsAs, SaidAs       what is said of amounts, prices, a worth and rows of money; of all that a text says
---   ReadAs                the same of a text that may have a line that is not in the form
+--   LowerSaid m o ps l     no list that settles is lower anywhere; or the first zone that could be lower
+--   AcceptedWith           a result is accepted, with what is true of its prices
+--   JudgedAs               a broken rule, or else a row that does not follow, or else that a result is accepted
+--   RowsAs, SaidAs         what is said of amounts, prices, a worth and rows of money; of all that a text says
+--   ReadAs                 the same of a text that may have a line that is not in the form
 --   Reports bs text r      r is what is said of the text for the hour that the bytes say: refused, unreadable, broken, a wrong
 --                          row, and only if none of these: accepted
 use Rattle.std.specs.Prelude.{◌≡◌, ℕ, List, ℤ, Some, None, Ok, Err, Option, Result}

@@ -1,4 +1,6 @@
 // Whether a published result of an hour stands, looked at with no trust in who published it or how it was found.
+#![tactic(auto)]
+
 mod accept;
 mod balance;
 mod follows;

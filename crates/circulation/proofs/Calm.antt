@@ -7,7 +7,6 @@ use Rattle.network.specs.Network.{hub}
 use Rattle.network.specs.Ways.{start, finish, step_cost, step_gain, Free, Links, way_cost, way_gain}
 use Rattle.network.specs.declared.arcs.Step.{Step}
 use Rattle.network.specs.declared.arcs.Step.TheVariants.{Forward, Backward}
-use Rattle.paths.specs.Bids.{own}
 use Rattle.paths.specs.Plan.{Plan, Planned}
 use Rattle.paths.proofs.Steps.{free_kinds}
 

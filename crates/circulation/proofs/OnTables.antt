@@ -1,5 +1,5 @@
 -- Ways on tables, walked step by step. Assumes nothing.
-use Rattle.std.proofs.Common.{◌≡◌, ℕ, zero, suc, ◌+◌, ◌-◌, ◌<◌, ◌≤◌, min, List, [], ◌∷◌, sym, refl, ap, ◌∙◌, subst, ap₂, arith}
+use Rattle.std.proofs.Common.{◌≡◌, ℕ, zero, suc, ◌-◌, min, List, ◌∷◌, sym, refl, ap, ◌∙◌, subst, ap₂, arith}
 use Rattle.hour.specs.Market.{Market, Outcome, at}
 use Rattle.network.proofs.Rows.{length_bids_in}
 use Rattle.network.specs.Network.{nth}

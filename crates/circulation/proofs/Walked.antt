@@ -1,11 +1,11 @@
 -- A push in place, step by step along a closed way. Assumes nothing.
-use Rattle.std.proofs.Common.{◌≡◌, ℕ, zero, suc, ◌+◌, ◌-◌, ◌^◌, ◌<◌, ◌≤◌, List, [], ◌∷◌, length, sym, refl, ap, ◌∙◌, subst, arith}
+use Rattle.std.proofs.Common.{◌≡◌, ℕ, zero, suc, ◌+◌, ◌-◌, ◌^◌, ◌<◌, ◌≤◌, List, refl, ap, ◌∙◌, subst, arith}
 use mathlib.Core.Path.{subst⁻¹}
 use Rattle.std.specs.List.{AllByRecursion}
 use Rattle.hour.specs.Market.{Market, Outcome, at}
 use Rattle.network.proofs.Rows.{length_bids_in, length_lines_in}
 use Rattle.network.proofs.Ways.{fits_rest}
-use Rattle.network.specs.Network.{Among, carried, capacity}
+use Rattle.network.specs.Network.{Among, carried}
 use Rattle.network.specs.Tables.{outcome_in}
 use Rattle.network.specs.Ways.{Fits, Once, moved, pushed, finish}
 use Rattle.network.specs.declared.arcs.Item.{Item}

@@ -2,11 +2,11 @@
 --
 --   value m o          what the outcome o is worth, and what all sells together cost: never below 0, and a push raises it
 --   top m              the value that no outcome can pass
---   PushByPush       a run is so many pushes, each along a closed way that pays; each leaves an outcome that can be carried out
---   RunSettles        at the end of a run the labels are the lowest prices, and they settle the outcome
---   OneRun            a run from an outcome has one count, one end and one set of tables
---   RunEnds           from every outcome that can be carried out there is a run, of no more pushes than the value can rise
---   LabelsFall        labels never rise from one search to the next
+--   PushByPush         a run is so many pushes, each along a closed way that pays; each leaves an outcome that can be carried out
+--   RunSettles         at the end of a run the labels are the lowest prices, and they settle the outcome
+--   OneRun             a run from an outcome has one count, one end and one set of tables
+--   RunEnds            from every outcome that can be carried out there is a run, of no more pushes than the value can rise
+--   LabelsFall         labels never rise from one search to the next
 --   Always             every proper market has an outcome that can be carried out and prices that settle it, the lowest that
 --                      settle anything
 use Rattle.std.specs.Prelude.{◌≡◌, ℕ, ◌+◌, ◌-◌, ◌*◌, ◌<◌, ◌≤◌, List, length}

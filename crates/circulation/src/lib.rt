@@ -1,4 +1,6 @@
 // Pushes along closed ways that pay, until none does.
+#![tactic(auto)]
+
 pub mod promises;
 mod push;
 mod run;

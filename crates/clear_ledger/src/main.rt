@@ -1,4 +1,6 @@
 // clear_ledger [HOUR]: reads an hour, from standard input where none is named, and clears it or says why it is refused.
+#![tactic(auto)]
+
 use hour::{Fault, arguments, read_file, read_standard_input, status, tell, write_answer};
 use ledger::published;
 use std::process::ExitCode;

@@ -7,7 +7,7 @@
 --   lent_fault k n need  a lent slice with number k that has n numbers is shorter than needed
 --   results_fault n need the first of the slices 0 to 3, which hold a result, that is shorter than needed
 --   results_need m       how long these are for the market m: a number for each buy, sell, line and zone
---   KeepsRules m        all that the rules ask of an hour, in words of the market
+--   KeepsRules m         all that the rules ask of an hour, in words of the market
 --
 -- A place is that of the byte in the written hour (see Layout).
 use Rattle.std.specs.Prelude.{ℕ, ◌+◌, ◌*◌, ◌<◌, ◌≤◌, ◌||◌, List, length, Option, ◌==◌, nat_le, nat_lt}

@@ -1,8 +1,8 @@
 -- The ledger of what is found, and what the fronts of slices say of it. Assumes nothing.
-use Rattle.std.proofs.Common.{◌≡◌, ℕ, zero, suc, ◌+◌, ◌-◌, ◌<◌, ◌≤◌, List, ◌++◌, length, take, drop, replicate, ℤ, ◌+ℤ◌, sym, refl, ap, ◌∙◌, subst, ap₂, arith, w64, of_z}
+use Rattle.std.proofs.Common.{◌≡◌, ℕ, zero, suc, ◌+◌, ◌-◌, ◌≤◌, List, ◌++◌, length, take, drop, replicate, ◌+ℤ◌, sym, refl, ap, ◌∙◌, subst, ap₂, arith, w64, of_z}
 use Rattle.std.proofs.lemmas.List.{ext_get_or, get_or-drop, length-drop}
 use Rattle.hour.specs.Bytes.{market_of}
-use Rattle.hour.specs.Market.{Market, Outcome, Proper, Feasible, at}
+use Rattle.hour.specs.Market.{Market, Outcome, Proper, at}
 use Rattle.hour.specs.Rules.{KeepsRules, max_price}
 use Rattle.hour.specs.declared.refusals.Sort.{Sort}
 use Rattle.network.proofs.Agree.{Agree, AgreePrices, feasible_agree, fronts_agree, front_prices}

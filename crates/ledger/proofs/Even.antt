@@ -1,5 +1,5 @@
 -- What the buyers pay is what the sellers get and what the lines earn. Assumes nothing.
-use Rattle.std.proofs.Common.{◌≡◌, ℕ, zero, suc, ◌+◌, ◌-◌, ◌*◌, ◌<◌, ◌≤◌, length, replicate, ℤ, pos, negsuc, ◌+ℤ◌, ◌-ℤ◌, ◌*ℤ◌, ◌≤ℤ◌, sym, refl, ap, ◌∙◌, ap₂, inl, inr, add-mul, arith}
+use Rattle.std.proofs.Common.{◌≡◌, ℕ, zero, suc, ◌+◌, ◌-◌, ◌*◌, ◌<◌, length, replicate, pos, negsuc, ◌+ℤ◌, ◌-ℤ◌, ◌*ℤ◌, ◌≤ℤ◌, sym, refl, ap, ◌∙◌, ap₂, inl, inr, add-mul, arith}
 use mathlib.Core.Path.{subst⁻¹}
 use borrow.Author.Differences.{ints}
 use Rattle.std.proofs.lemmas.List.{get_or-replicate}
@@ -10,7 +10,6 @@ use Rattle.hour.specs.Total.{total}
 use Rattle.hour.specs.declared.refusals.Sort.TheVariants as sorts
 use Rattle.hour.proofs.Total.{total_same}
 use Rattle.network.specs.Prices.{paid, sent, arrived}
-use Rattle.network.specs.declared.arcs.Item.TheVariants.{Buy, Sell, Line}
 use Rattle.network.proofs.Prices.{paid_level, even}
 use Rattle.ledger.specs.Money.{owed, sumℤ, sum_of}
 use Rattle.ledger.specs.Promises.{LedgerEven}

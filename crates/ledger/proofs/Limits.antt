@@ -1,5 +1,5 @@
 -- The rules of an hour limit every row and every sum. Assumes nothing.
-use Rattle.std.proofs.Common.{◌≡◌, ℕ, zero, suc, ◌+◌, ◌*◌, ◌^◌, ◌<◌, ◌≤◌, List, length, ℤ, nat_abs, refl, ap, ◌∙◌, ap₂, add-mul, mul-le-mul, arith, w64, to_z, of_z}
+use Rattle.std.proofs.Common.{◌≡◌, ℕ, zero, suc, ◌+◌, ◌*◌, ◌^◌, ◌<◌, ◌≤◌, List, ℤ, nat_abs, refl, ap, ◌∙◌, ap₂, add-mul, mul-le-mul, arith, w64, to_z, of_z}
 use borrow.Author.Differences.{ints}
 use Rattle.hour.proofs.First.{is_none}
 use Rattle.hour.proofs.Kept.{kept}

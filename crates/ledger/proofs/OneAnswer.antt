@@ -11,7 +11,6 @@ use Rattle.hour.specs.declared.refusals.Refusal.{Refusal}
 use Rattle.prices.proofs.Bounds.{proper_kept}
 use Rattle.prices.proofs.Promised.{found_promised, one_found}
 use Rattle.prices.specs.Found.{result_in, prices_in}
-use Rattle.prices.specs.declared.ended.Ended.{Ended}
 use Rattle.prices.specs.declared.ended.Ended.TheVariants.{Done, Refused}
 use Rattle.ledger.proofs.Even.{ledger_even}
 use Rattle.ledger.proofs.Faults.{taken_hour, slices_enough, refusal_enough}

@@ -1,15 +1,12 @@
 -- What is published of an hour that is cleared in slices just long enough, or refused. Assumes nothing.
-use Rattle.std.proofs.Common.{◌≡◌, ℕ, ◌+◌, ◌≤◌, List, [], ◌∷◌, length, Some, None, Ok, Err, Option, sym, ap, ◌∙◌, subst, ap₂, arith}
+use Rattle.std.proofs.Common.{◌≡◌, ℕ, ◌+◌, List, [], ◌∷◌, length, Some, None, Ok, Option, ap, ◌∙◌, subst, arith}
 use mathlib.Core.Path.{subst⁻¹}
 use Rattle.std.proofs.lemmas.List.{take_all}
-use Rattle.std.proofs.lemmas.Bool.{le-ltb}
-use Rattle.hour.proofs.First.{else_none, when_false}
-use Rattle.hour.proofs.Heads.{head_read_ok, refusal_by_head}
-use Rattle.hour.proofs.Kept.{kept, buys_count, sells_count, lines_count}
-use Rattle.hour.specs.Bytes.{head_fault, head_of, head_read, market_of, refusal_of}
-use Rattle.hour.specs.First.{◌else◌}
+use Rattle.hour.proofs.Heads.{head_read_ok}
+use Rattle.hour.proofs.Kept.{buys_count, sells_count, lines_count}
+use Rattle.hour.specs.Bytes.{head_read, market_of, refusal_of}
 use Rattle.hour.specs.Market.{Market, Outcome}
-use Rattle.hour.specs.Rules.{item_fault, lent_fault, KeepsRules}
+use Rattle.hour.specs.Rules.{KeepsRules}
 use Rattle.hour.specs.Text.{row, refused}
 use Rattle.hour.specs.declared.reading.Head.{Head}
 use Rattle.hour.specs.declared.refusals.Refusal.{Refusal}

@@ -1,18 +1,18 @@
 -- The money of an hour, in hundredths, below nothing too. Assumes nothing: these are definitions.
 --
---   Sort               buys, sells or lines; item s k is the k-th of a sort, count m s how many of it there are
---   above, base        what the money of a unit lies between: for a bid, its zone's price and the price that stands for
+--   Sort                buys, sells or lines; item s k is the k-th of a sort, count m s how many of it there are
+--   above, base         what the money of a unit lies between: for a bid, its zone's price and the price that stands for
 --                      no money; for a line, the price where it ends and the price where it begins
---   owed a b x         x units at a less b
---   money m o ps i     what a buyer pays, what a seller gets, what a line earns, in the outcome o at the prices ps
---   sumℤ n f           f 0 + f 1 + .. + f (n - 1)
---   sum_of m o ps s    the money of all items of a sort
---   first_row m s      the row of a ledger at which a sort begins: buys, then sells, then lines; row_count m all of them
---   sum_row m s        the row with the sum of a sort: behind all others, in the same order
+--   owed a b x          x units at a less b
+--   money m o ps i      what a buyer pays, what a seller gets, what a line earns, in the outcome o at the prices ps
+--   sumℤ n f            f 0 + f 1 + .. + f (n - 1)
+--   sum_of m o ps s     the money of all items of a sort
+--   first_row m s       the row of a ledger at which a sort begins: buys, then sells, then lines; row_count m all of them
+--   sum_row m s         the row with the sum of a sort: behind all others, in the same order
 --   LedgerOf m o ps l   l has the money of each item and the three sums, each as the two's complement of 64 bits
---   asked m i          the price that a bid has itself; a line has none
---   worth_of m o s     what the items of a sort are worth by these prices; worth_by m o what the outcome is worth
---   Payable m o ps     o can be carried out and no zone's price is above what a bid may have
+--   asked m i           the price that a bid has itself; a line has none
+--   worth_of m o s      what the items of a sort are worth by these prices; worth_by m o what the outcome is worth
+--   Payable m o ps      o can be carried out and no zone's price is above what a bid may have
 --
 -- A ledger may have more numbers behind its rows: they say nothing.
 use Rattle.std.specs.Prelude.{◌≡◌, ℕ, zero, suc, ◌+◌, ◌*◌, ◌<◌, ◌≤◌, List, length, ℤ, pos, ◌+ℤ◌, ◌-ℤ◌, ◌*ℤ◌}

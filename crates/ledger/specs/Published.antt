@@ -1,9 +1,9 @@
 -- What is published of an hour. Assumes nothing: these are definitions.
 --
---   ClearedText m t    t is the text of what is found of the market m: a count of pushes, an outcome and prices with all that is
+--   ClearedText m t     t is the text of what is found of the market m: a count of pushes, an outcome and prices with all that is
 --                       promised of them, and money that closes
 --   Published bs t      t is what is published of the bytes bs: the row of their refusal, or the text of the hour that they say
---   LentFor h ..       six slices that are just as long as an hour with the head h needs
+--   LentFor h ..        six slices that are just as long as an hour with the head h needs
 use Rattle.std.specs.Prelude.{◌≡◌, ℕ, ◌+◌, ◌*◌, List, [], ◌∷◌, length, Some, None, Option}
 use Rattle.hour.specs.Bytes.{market_of, refusal_of}
 use Rattle.hour.specs.Market.{Market, Outcome}

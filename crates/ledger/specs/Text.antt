@@ -1,15 +1,15 @@
 -- The text that is published of an hour, in bytes. Assumes nothing: these are definitions.
 --
---   worth_row w n       what the outcome is worth, and how many pushes there were: worth 2000 pushes 2
---   zone_row z p        a zone and its price as money: zone 0 price -499.80
---   item_row w k x d    the k-th of a sort, which the words w name: its amount x and its money d, in hundredths:
+--   worth_row w n          what the outcome is worth, and how many pushes there were: worth 2000 pushes 2
+--   zone_row z p           a zone and its price as money: zone 0 price -499.80
+--   item_row w k x d       the k-th of a sort, which the words w name: its amount x and its money d, in hundredths:
 --                       buy 0 has 100 pays -4996000
---   wording s           the words of a sort
+--   wording s              the words of a sort
 --   item_rows w n xs l i   n of them, with amounts in xs and money in the rows of the ledger l from i on
---   text_of n ..        all rows: the worth, the zones, the buys, the sells and the lines, so many as n says
---   Room n ..           the lists have all that so many rows need
---   counts_of m         how many of each a market has
---   result_of m o ps n  the same text in words of the market: each amount, each money, what the outcome is worth
+--   text_of n ..           all rows: the worth, the zones, the buys, the sells and the lines, so many as n says
+--   Room n ..              the lists have all that so many rows need
+--   counts_of m            how many of each a market has
+--   result_of m o ps n     the same text in words of the market: each amount, each money, what the outcome is worth
 --
 -- A ledger has the two's complement of a money; the text has its decimal with a sign.
 use Rattle.std.specs.Prelude.{ℕ, ◌+◌, ◌≤◌, List, [], ◌∷◌, ◌++◌, length, ℤ, codes, decimal}

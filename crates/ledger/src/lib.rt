@@ -1,4 +1,6 @@
 // The ledger of an hour: who pays what, who gets what, and what the lines earn.
+#![tactic(auto)]
+
 mod entry;
 mod money;
 pub mod promises;

@@ -1,5 +1,7 @@
 // Sample hours with the money of each row: the refusals of those that break a rule, what the worked and the odd ones come to and
 // whether their sums close, the worth of the largest hours, and slices that are too short.
+#![tactic(auto)]
+
 mod lending;
 mod sums;
 

@@ -1,5 +1,7 @@
 // What a trial lends to clearing: six slices filled with one number, so that whatever is written into them shows; and whether the
 // sums of a ledger close.
+#![tactic(auto)]
+
 use hour::Head;
 use ledger::clear;
 use prices::Ended;

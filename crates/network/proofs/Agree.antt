@@ -2,7 +2,7 @@
 --
 --   Agree m o p          o and p give every item of m the same
 --   AgreePrices m ps qs ps and qs give every zone of m the same price
-use Rattle.std.proofs.Common.{◌≡◌, ℕ, ◌+◌, ◌<◌, ◌≤◌, cond, eqb, List, length, take, sym, refl, ap, ◌∙◌, ap₂, arith}
+use Rattle.std.proofs.Common.{◌≡◌, ℕ, ◌+◌, ◌<◌, cond, eqb, List, length, take, sym, refl, ap, ◌∙◌, ap₂, arith}
 use Rattle.std.proofs.lemmas.List.{get_or-take}
 use Rattle.hour.proofs.Total.{total_same}
 use Rattle.hour.specs.Market.{Market, Outcome, Proper, Feasible, Settled, at}

@@ -15,7 +15,7 @@
 --   gained, spent     what o gains and what it costs
 --   price m ps n      a node's price: that of its zone, and 0 for the hub
 --   unit_cost         what a unit of an item costs at the prices ps; unit_value what it brings
---   ContentItem      what Settled says of the item
+--   ContentItem       what Settled says of the item
 --
 -- A line costs and gains nothing on its own; a fee on a line would be its cost.
 use Rattle.std.specs.Prelude.{ℕ, ◌+◌, ◌-◌, ◌*◌, ◌<◌, cond, List, length, ◌==◌, nat_lt}

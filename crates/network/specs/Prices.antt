@@ -2,12 +2,12 @@
 --
 --   paid ps bs xs         the amounts xs of the bids bs at their zones' prices
 --   sent, arrived         the flows at the prices where the lines begin, and where they end
---   MoneyEven m o ps     buyers pay what sellers get and lines earn, and no line earns less than nothing
+--   MoneyEven m o ps      buyers pay what sellers get and lines earn, and no line earns less than nothing
 --   Highest l x c v       where a unit costs c and brings v, no amount within the limit l has a higher surplus than x
---   NoRegrets m o ps     nobody's surplus is higher at another amount
---   LowestOf m o ps      ps settles o, and no list that settles o is lower in any zone
+--   NoRegrets m o ps      nobody's surplus is higher at another amount
+--   LowestOf m o ps       ps settles o, and no list that settles o is lower in any zone
 --   Lowest m ps           ps settles a feasible outcome, and no list that settles a feasible one is lower in any zone
---   PricesTo m c         no bid has a price above c
+--   PricesTo m c          no bid has a price above c
 --
 -- A surplus is what an amount brings less what it costs; the orders below have the cost on the other side.
 use Rattle.std.specs.Prelude.{◌≡◌, ℕ, ◌+◌, ◌*◌, ◌<◌, ◌≤◌, List, length}

@@ -1,4 +1,6 @@
 // The market as a network: bids and lines are arcs between zones and one hub.
+#![tactic(auto)]
+
 pub mod arcs;
 pub mod promises;
 pub mod settled;

@@ -1,12 +1,12 @@
 -- Laws of takers and givers: which steps they are, and that no free bid is better. Assumes nothing.
 --
---   IsBid, NumbersBid   an item is a buy or a sell; it is one of the market's
+--   IsBid, NumbersBid     an item is a buy or a sell; it is one of the market's
 --   Goes m s a b c g      the step s goes from node a to node b, costs c and gains g
 --   Found m o s z k c     bid k lies in zone z, its step s is free, and it is worth c as a table has it
 use Rattle.std.proofs.Common.{◌≡◌, ℕ, suc, ◌+◌, ◌-◌, ◌<◌, ◌≤◌, true, length, Some, None, Option, refl, ap, inl, inr, arith}
 use mathlib.Core.Path.{subst⁻¹}
 use Rattle.std.proofs.lemmas.Bool.{cases_lt, and_parts, and_from, eqb-true, eq-eqb, ltb-true, lt-ltb, ltb-false}
-use Rattle.hour.specs.Market.{Market, Outcome, bid}
+use Rattle.hour.specs.Market.{Market, Outcome}
 use Rattle.network.specs.Network.{Among, hub}
 use Rattle.network.specs.Ways.{Free, room, start, finish, item, step_cost, step_gain}
 use Rattle.network.specs.declared.arcs.Item.{Item}

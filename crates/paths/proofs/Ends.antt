@@ -1,5 +1,5 @@
 -- A line that is looked at: where it leads, and what raising a label over it leaves. Assumes nothing.
-use Rattle.std.proofs.Common.{◌≡◌, ℕ, suc, ◌+◌, ◌-◌, ◌^◌, ◌<◌, ◌≤◌, Bool, true, false, cond, List, length, set, sym, refl, ap, ◌∙◌, inl, inr, arith}
+use Rattle.std.proofs.Common.{◌≡◌, ℕ, suc, ◌+◌, ◌^◌, ◌<◌, ◌≤◌, Bool, true, false, cond, List, length, set, sym, ap, inl, inr, arith}
 use Rattle.hour.specs.Market.{Market, Outcome, at, line}
 use Rattle.hour.specs.declared.items.Line.{Line}
 use Rattle.network.proofs.Rows.{length_lines_in}
@@ -10,7 +10,7 @@ use Rattle.network.specs.declared.arcs.Step.{Step}
 use Rattle.network.specs.declared.arcs.Step.TheVariants.{Forward, Backward}
 use Rattle.network.specs.declared.tables.Amounts.{Amounts}
 use Rattle.network.specs.declared.tables.Tables.{Tables}
-use Rattle.paths.specs.Labels.{Leads, NoBetter}
+use Rattle.paths.specs.Labels.{NoBetter}
 use Rattle.paths.specs.Search.{market_given, outcome_given, Sound, rises, RelaxedBy, Settling, Raised, top}
 use Rattle.paths.proofs.Keys.{far_below}
 use Rattle.paths.proofs.Raised.{raise_done}

@@ -8,7 +8,6 @@ use Rattle.network.specs.Network.{Among}
 use Rattle.network.specs.declared.arcs.Item.TheVariants.{Line}
 use Rattle.network.specs.declared.arcs.Step.{Step}
 use Rattle.network.specs.declared.arcs.Step.TheVariants.{Forward, Backward}
-use Rattle.paths.specs.Bids.{own}
 use Rattle.paths.specs.Labels.{Leads, Over, Along, NoBetter, BestLabels}
 use Rattle.paths.specs.Plan.{nearer, onward, step_out}
 use Rattle.paths.proofs.Best.{Passing}

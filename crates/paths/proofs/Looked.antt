@@ -1,18 +1,16 @@
 -- A bid that is looked at: where it lies, and whether it takes or gives. Assumes nothing.
-use Rattle.std.proofs.Common.{◌≡◌, ℕ, ◌+◌, ◌-◌, ◌<◌, ◌≤◌, Bool, true, ◌&&◌, eqb, ltb, List, length, sym, refl, ap, ◌∙◌, arith}
+use Rattle.std.proofs.Common.{◌≡◌, ℕ, ◌+◌, ◌-◌, ◌<◌, Bool, ◌&&◌, eqb, ltb, List, length, sym, refl, ap, arith}
 use Rattle.std.proofs.lemmas.Bool.{eq-eqb}
 use Rattle.std.proofs.lemmas.Bool.Decides.{nat_tests}
-use Rattle.hour.specs.Market.{Market, Outcome, at, bid}
+use Rattle.hour.specs.Market.{at, bid}
 use Rattle.hour.specs.declared.items.Bid.{Bid}
 use Rattle.network.proofs.Items.{nth_buy, nth_sell}
 use Rattle.network.proofs.Rows.{length_bids_in}
 use Rattle.network.specs.Tables.{items}
-use Rattle.network.specs.Ways.{room}
-use Rattle.network.specs.declared.arcs.Item.{Item}
 use Rattle.network.specs.declared.arcs.Item.TheVariants.{Buy, Sell}
 use Rattle.network.specs.declared.tables.Amounts.{Amounts}
 use Rattle.network.specs.declared.tables.Tables.{Tables}
-use Rattle.paths.specs.Bids.{item_no, zone_of, price_of, taking, giving, takes, gives}
+use Rattle.paths.specs.Bids.{item_no, zone_of, price_of}
 use Rattle.paths.specs.Search.{market_given, outcome_given, Sound, Looks, Takers, Givers, higher, lower, noted}
 use Rattle.paths.proofs.Noted.{takers_more, givers_more}
 

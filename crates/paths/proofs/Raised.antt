@@ -1,16 +1,11 @@
 -- One label raised, or not: what holds of the labels afterwards. Assumes nothing.
-use Rattle.std.proofs.Common.{◌≡◌, ℕ, suc, ◌+◌, ◌<◌, ◌≤◌, Bool, true, false, cond, ◌&&◌, ◌||◌, eqb, ltb, ◌≢◌, ◌⊎◌, List, length, set, sym, refl, ap, ◌∙◌, inl, inr, ⊎_elim, add-one, arith}
-use mathlib.Core.Path.{subst⁻¹}
-use Rattle.std.proofs.lemmas.List.{get_or-set_same, get_or-set_other}
-use Rattle.std.proofs.lemmas.Bool.{cases_eq, or_cases, or_parts, and_parts, and_cases, ltb-true, ltb-false, eqb-true, eqb-false}
+use Rattle.std.proofs.Common.{◌≡◌, ℕ, suc, ◌+◌, ◌<◌, ◌≤◌, Bool, true, false, cond, eqb, ltb, List, set, sym, refl, inl, inr, arith}
+use Rattle.std.proofs.lemmas.Bool.{or_cases, or_parts, and_parts, and_cases, ltb-true, ltb-false, eqb-true, eqb-false}
 use Rattle.hour.specs.Market.{Proper, at}
-use Rattle.network.specs.Ways.{start, finish}
-use Rattle.network.specs.declared.arcs.Step.{Step}
 use Rattle.network.specs.declared.tables.Amounts.{Amounts}
 use Rattle.network.specs.declared.tables.Tables.{Tables}
-use Rattle.paths.specs.Bids.{own}
-use Rattle.paths.specs.Keys.{Raises, Keyed, left}
-use Rattle.paths.specs.Labels.{Along, Over, Leads, NoBetter}
+use Rattle.paths.specs.Keys.{Raises}
+use Rattle.paths.specs.Labels.{Over, NoBetter}
 use Rattle.paths.specs.Search.{market_given, outcome_given, rises, Settling, Raised, top}
 use Rattle.paths.proofs.Keys.{left_falls}
 use Rattle.paths.proofs.Raising.{reaching_raised}

@@ -1,6 +1,6 @@
 -- Labels on the way to the best: a raise keeps them, and where no line raises one they are best. Assumes nothing.
 --
---   StepRaises                  a free step that raises a label
+--   StepRaises                   a free step that raises a label
 --   Unraised                     no step along a line does
 use Rattle.std.proofs.Common.{◌≡◌, ℕ, suc, ◌+◌, ◌<◌, ◌≤◌, ◌≢◌, ◌⊎◌, List, length, set, sym, ap, subst₂, inl, inr, arith}
 use mathlib.Core.Path.{subst⁻¹}

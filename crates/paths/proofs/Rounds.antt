@@ -1,12 +1,11 @@
 -- Lines one after another, round after round: what holds when no label has risen. Assumes nothing.
-use Rattle.std.proofs.Common.{◌≡◌, ℕ, suc, ◌+◌, ◌-◌, ◌<◌, ◌≤◌, Bool, true, false, cond, List, length, sym, refl, ap, ◌∙◌, subst, subst₂, inl, inr, ⊎_elim, arith}
+use Rattle.std.proofs.Common.{◌≡◌, ℕ, ◌+◌, ◌<◌, ◌≤◌, Bool, true, false, List, length, sym, refl, ap, ◌∙◌, subst, subst₂, inl, inr, ⊎_elim, arith}
 use Rattle.std.proofs.lemmas.Bool.{cases_lt}
-use Rattle.hour.specs.Market.{Market, Outcome, at}
 use Rattle.network.proofs.Rows.{length_lines_in}
 use Rattle.network.specs.Tables.{items}
 use Rattle.network.specs.declared.tables.Amounts.{Amounts}
 use Rattle.network.specs.declared.tables.Tables.{Tables}
-use Rattle.paths.specs.Labels.{Over, NoBetter, BestLabels}
+use Rattle.paths.specs.Labels.{BestLabels}
 use Rattle.paths.specs.Search.{market_given, outcome_given, Relaxed, Settling, Raised, turned}
 
 pub turned_below : (b : Bool) (n j : ℕ) → j < n → turned b n j < n

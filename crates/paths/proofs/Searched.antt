@@ -1,21 +1,16 @@
 -- What a search has noted of the bids starts the labels, and what it leaves is a plan. Assumes nothing.
-use Rattle.std.proofs.Common.{◌≡◌, ℕ, ◌+◌, ◌-◌, ◌^◌, ◌<◌, ◌≤◌, List, length, Option, sym, refl, ap, ◌∙◌, ap₂, inl, inr, arith}
-use mathlib.Core.Path.{subst⁻¹}
+use Rattle.std.proofs.Common.{◌≡◌, ℕ, ◌+◌, ◌-◌, ◌^◌, ◌<◌, ◌≤◌, List, length, sym, ap, ◌∙◌, ap₂, inl, inr, arith}
 use Rattle.std.proofs.lemmas.Bool.{cases_lt}
-use Rattle.hour.specs.First.{when, first}
-use Rattle.hour.specs.Market.{Feasible, at}
+use Rattle.hour.specs.Market.{at}
 use Rattle.network.proofs.Rows.{length_bids_in}
 use Rattle.network.specs.Tables.{items}
 use Rattle.network.specs.declared.tables.Amounts.{Amounts}
 use Rattle.network.specs.declared.tables.Tables.{Tables}
 use Rattle.paths.specs.Best.{best, numbered}
 use Rattle.paths.specs.Bids.{bids, item_no, price_of, takes, gives, dearer, cheaper, taker, giver, worth_at, own}
-use Rattle.paths.specs.Plan.{Plan, Planned, asks_less, first_paying}
-use Rattle.paths.specs.Promises.{Shown}
-use Rattle.paths.specs.Search.{market_given, outcome_given, Sound, Noted, Takers, Givers, Settling, top}
+use Rattle.paths.specs.Search.{market_given, outcome_given, Sound, Takers, Givers, Settling, top}
 use Rattle.paths.proofs.Bids.{buy_no, sell_no, own_limit}
 use Rattle.paths.proofs.Raising.{reaching_start}
-use Rattle.paths.proofs.Shown.{plan_shown}
 
 -- no table has a bid yet
 pub noted_none :

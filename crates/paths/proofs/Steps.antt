@@ -1,7 +1,7 @@
 -- The kinds of free steps: along a bid to the hub, along a bid from the hub, across a line. Assumes nothing.
 --
---   ToHub m o s      s takes power in a zone, and gains no more than the zone's taker is worth
---   FromHub m o s    s gives power in a zone, and costs no less than the zone's giver asks
+--   ToHub m o s       s takes power in a zone, and gains no more than the zone's taker is worth
+--   FromHub m o s     s gives power in a zone, and costs no less than the zone's giver asks
 --   Across m o s      s leads over a line, and neither costs nor gains
 use Rattle.std.proofs.Common.{◌≡◌, ℕ, suc, ◌+◌, ◌<◌, ◌≤◌, ◌⊎◌, length, refl, subst, inl, inr, arith}
 use Rattle.hour.specs.Market.{Market, Outcome, Proper, line}

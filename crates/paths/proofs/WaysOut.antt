@@ -1,6 +1,6 @@
 -- The ways that tables show: from each zone to the hub, and closed through a zone that pays. Assumes nothing.
 --
---   WayOf m o t k v    the way of k lines that t shows from zone v: it leads to the hub through what is free, costs
+--   WayOf m o t k v     the way of k lines that t shows from zone v: it leads to the hub through what is free, costs
 --                       nothing, gains what the label says, and leaves zones only, each nearer the hub than the last
 use Rattle.std.proofs.Common.{◌≡◌, ℕ, zero, suc, ◌+◌, ◌-◌, ◌<◌, ◌≤◌, true, eqb, ◌≢◌, List, ◌∷◌, length, refl, ap, ◌∙◌, subst, arith}
 use mathlib.Core.Path.{subst⁻¹}

@@ -2,14 +2,14 @@
 --
 --   Over m o l v w       line l leads from zone v to zone w, forward or backward, through what is left free
 --   Along m o k v c      a way of k free lines leads from zone v to a zone whose own taker is worth c
---   NoBetter c k a b    a way worth c over k lines is no better than one worth a over b lines; a way is better if it is
+--   NoBetter c k a b     a way worth c over k lines is no better than one worth a over b lines; a way is better if it is
 --                        worth more, or as much over fewer lines
 --   BestLabels m o worth far
 --                        worth and far are what each zone's best way is worth and how many lines it takes; as a table has
 --                        it: 0 and 0 where no free way leads to the hub, else one more than its worth, and its lines
 --
 -- Lines cost nothing, so a way is worth what its last step, along a taker's bid to the hub, is worth.
-use Rattle.std.specs.Prelude.{◌≡◌, ℕ, zero, suc, ◌<◌, ◌≤◌, ◌⊎◌, List, length}
+use Rattle.std.specs.Prelude.{◌≡◌, ℕ, zero, suc, ◌<◌, ◌≤◌, ◌⊎◌, List}
 use Rattle.hour.specs.Market.{Market, Outcome, at}
 use Rattle.network.specs.Ways.{Free, start, finish}
 use Rattle.network.specs.declared.arcs.Item.TheVariants.{Line}

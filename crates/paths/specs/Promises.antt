@@ -2,15 +2,15 @@
 --
 --   Shortest m o t     no closed way costs less than it gains; each zone's way is shown with what it is worth, and no free way
 --                      from the zone to the hub is worth more; where none is shown, none leads there
---   PaysOff m o t v   the closed way through zone v that the tables show is free, leaves no node twice, and gains more than
+--   PaysOff m o t v    the closed way through zone v that the tables show is free, leaves no node twice, and gains more than
 --                      it costs
 --   Shown m o t r      the one where no zone pays, the other for the zone that does
---   OnePlan           the tables are fixed by the market and the outcome
---   SomePlan          every outcome has such tables
---   PlanShown         tables that a search leaves show the one or the other
---   RingsEven         no closed way that avoids the hub gains or costs anything
---   LowestLabels      where no zone pays, the labels are the lowest prices, 0 where no way leads to the hub
-use Rattle.std.specs.Prelude.{◌≡◌, ℕ, ◌+◌, ◌-◌, ◌<◌, ◌≤◌, ◌≢◌, List, map, length, Some, None, Option}
+--   OnePlan            the tables are fixed by the market and the outcome
+--   SomePlan           every outcome has such tables
+--   PlanShown          tables that a search leaves show the one or the other
+--   RingsEven          no closed way that avoids the hub gains or costs anything
+--   LowestLabels       where no zone pays, the labels are the lowest prices, 0 where no way leads to the hub
+use Rattle.std.specs.Prelude.{◌≡◌, ℕ, ◌+◌, ◌-◌, ◌<◌, ◌≤◌, ◌≢◌, List, map, Some, None, Option}
 use Rattle.std.specs.List.{AllByRecursion}
 use Rattle.hour.specs.Market.{Market, Outcome, Proper, Feasible, at}
 use Rattle.network.specs.Network.{hub}

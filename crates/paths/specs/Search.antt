@@ -11,9 +11,9 @@
 --   Looks t o n b ..       what is seen of the bid with number n
 --   noted wins ok ws xs z new x   xs with x in place z, if ok and the worth `new` wins over the one that ws has there
 --   rises worth far v w    the way over a line from v to w is better than the one that v has
---   Reaching m o top worth far   each label above 0 is that of a free way, no own taker is better than its zone's label, and
+--   Reaching m o top worth far    each label above 0 is that of a free way, no own taker is better than its zone's label, and
 --                          the labels are keyed (see Keys)
---   Relaxed m o worth far l   line l, forward or backward, raises no label
+--   Relaxed m o worth far l       line l, forward or backward, raises no label
 --   Settling, Raised       what holds of labels while they are raised; what raising some of them keeps
 use Rattle.std.specs.Prelude.{◌≡◌, ℕ, suc, ◌+◌, ◌-◌, ◌^◌, ◌<◌, ◌≤◌, Bool, cond, ◌&&◌, ◌||◌, List, length, ◌==◌, nat_lt, slice_set}
 use Rattle.hour.specs.Market.{Market, Outcome, Proper, at, bid}

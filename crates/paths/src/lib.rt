@@ -1,4 +1,6 @@
 // Shortest ways to the hub through what an outcome leaves free.
+#![tactic(auto)]
+
 pub mod promises;
 mod relax;
 mod search;

@@ -1,15 +1,15 @@
 -- An hour that keeps the rules fits the bounds of the search, and nothing can always be carried out. Assumes nothing.
-use Rattle.std.proofs.Common.{◌≡◌, ℕ, ◌+◌, ◌*◌, ◌^◌, ◌<◌, ◌≤◌, cond, eqb, List, length, get_or, replicate, sym, refl, ap, ◌∙◌, subst, ap₂, inl, inr, arith}
+use Rattle.std.proofs.Common.{◌≡◌, ℕ, ◌+◌, ◌^◌, ◌<◌, ◌≤◌, cond, eqb, List, length, get_or, replicate, sym, refl, ◌∙◌, subst, ap₂, inl, inr, arith}
 use mathlib.Core.Path.{subst⁻¹}
 use Rattle.std.proofs.lemmas.List.{length-replicate, get_or-replicate, ext_get_or, get_or_past}
 use Rattle.std.proofs.lemmas.Bool.{cases_lt}
 use Rattle.hour.proofs.Total.{total_same, total_none}
-use Rattle.hour.specs.Market.{Market, Outcome, Proper, Feasible, at, bid, line}
+use Rattle.hour.specs.Market.{Market, Proper, Feasible, at}
 use Rattle.hour.specs.Rules.{KeepsRules}
-use Rattle.hour.specs.Total.{total, tagged}
+use Rattle.hour.specs.Total.{tagged}
 use Rattle.network.proofs.Rows.{length_bids_in, length_lines_in}
 use Rattle.network.specs.Network.{Among, capacity}
-use Rattle.network.specs.Tables.{items, bids_in, lines_in, market_in, outcome_in}
+use Rattle.network.specs.Tables.{bids_in, lines_in, market_in, outcome_in}
 use Rattle.network.specs.declared.arcs.Item.{Item}
 use Rattle.network.specs.declared.arcs.Item.TheVariants.{Buy, Sell, Line}
 use Rattle.network.specs.declared.tables.Tables.{Tables}

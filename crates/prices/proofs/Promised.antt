@@ -1,13 +1,12 @@
 -- What is found is promised; there is always something to find, and it is one. Assumes nothing.
-use Rattle.std.proofs.Common.{◌≡◌, ℕ, List, sym, refl, ap, ◌∙◌}
+use Rattle.std.proofs.Common.{ℕ, List, sym, refl, ap, ◌∙◌}
 use mathlib.Core.Path.{subst⁻¹}
-use Rattle.hour.specs.Market.{Market, Outcome, Proper, Settled}
+use Rattle.hour.specs.Market.{Settled}
 use Rattle.network.proofs.Prices.{best, no_regret}
 use Rattle.network.specs.Prices.{Lowest}
 use Rattle.paths.specs.Promises.{prices_of}
 use Rattle.circulation.proofs.Few.{few_pushes}
 use Rattle.circulation.proofs.Runs.{push_by_push, run_settles, run_ends, one_run}
-use Rattle.prices.specs.Found.{Found, Promised}
 use Rattle.prices.specs.Laid.{nothing}
 use Rattle.prices.specs.Promises.{FoundPromised, AlwaysFound, OneFound}
 use Rattle.prices.proofs.Bounds.{nothing_feasible}

@@ -1,8 +1,8 @@
 -- How clearing ends, and what it leaves in lent slices. Assumes nothing: these are definitions.
 --
 --   refusal_in r         the refusal that an answer is, if it is one
---   WhenDone r P        where a market was cleared, with n pushes, P n
---   FoundIn r m ..      where m was cleared, what four slices hold is what is found; PromisedIn what is promised of it
+--   WhenDone r P         where a market was cleared, with n pushes, P n
+--   FoundIn r m ..       where m was cleared, what four slices hold is what is found; PromisedIn what is promised of it
 --   Left r n old new     a slice that held old: as it was where the answer is a refusal, else as it was from number n on
 --   Wiped r n old new    the same, with zeros before number n
 --   size m               how many bids and lines m has; work_need m how many numbers of work

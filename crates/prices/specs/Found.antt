@@ -5,7 +5,7 @@
 --   result_in m ..       the outcome of m at the front of three slices; prices_in m the prices at the front of one
 --   Labelled m o n p ls  a run of n pushes leads from the outcome o to p, and ls are the labels of its last search
 --   Found m n o ps       the run that begins with nothing takes n pushes and ends with the outcome o and the prices ps
---   BestOf m o          no outcome that can be carried out is worth more than o
+--   BestOf m o           no outcome that can be carried out is worth more than o
 --   Promised m n o ps    what holds of everything that is found
 --
 -- Of two sides of an order, what is subtracted stands on the other side.

@@ -1,7 +1,7 @@
 -- An hour's bids and lines laid into tables, three numbers to an item. Assumes nothing: these are definitions.
 --
 --   row t k         the three numbers of item k, as a bid; line_row the same as a line
---   LaidBids n     the first n rows of a table are the first n bids of a list; LaidLines the same for lines
+--   LaidBids n      the first n rows of a table are the first n bids of a list; LaidLines the same for lines
 --   Rowed, Zoned    how long lent tables are; nothing m the outcome with nothing in it
 use Rattle.std.specs.Prelude.{◌≡◌, ℕ, ◌*◌, ◌<◌, List, length, replicate}
 use Rattle.hour.specs.Market.{Market, Outcome, bid, line}

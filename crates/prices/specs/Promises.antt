@@ -1,10 +1,10 @@
 -- What clearing promises, each a statement whose proof a contract of this crate asks for. Assumes nothing.
 --
---   FoundPromised   what is found can be carried out and is settled by its prices; no list that settles any outcome that can be
+--   FoundPromised    what is found can be carried out and is settled by its prices; no list that settles any outcome that can be
 --                    carried out is lower in any zone; no outcome that can be carried out is worth more; nobody would rather have
 --                    another amount; every push kept all that and raised the value, so that there are not many
---   AlwaysFound     for every proper market something is found
---   OneFound        and it is one: the count, the outcome and the prices
+--   AlwaysFound      for every proper market something is found
+--   OneFound         and it is one: the count, the outcome and the prices
 use Rattle.std.specs.Prelude.{◌≡◌, ℕ, List}
 use Rattle.hour.specs.Market.{Market, Outcome, Proper}
 use Rattle.prices.specs.Found.{Found, Promised}

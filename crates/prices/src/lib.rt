@@ -1,4 +1,6 @@
 // An hour cleared: its bids and lines in tables, and the prices that settle what comes of it.
+#![tactic(auto)]
+
 mod clearing;
 mod ended;
 mod entry;

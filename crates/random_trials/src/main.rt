@@ -1,5 +1,7 @@
 // random_trials [HOURS [SEED]]: clears small drawn hours and holds each beside a slow search of everything, then lends slices to byte
 // strings that are hardly hours. An hour that is not as the slow search has it is printed.
+#![tactic(auto)]
+
 mod draws;
 mod others;
 mod rules;

@@ -1,5 +1,7 @@
 // Sample hours: what is listed of the refused and of the worked ones, what the worked and the odd ones come to, the counts of hours at the limits, and
 // whether each hour is written back as it was read.
+#![tactic(auto)]
+
 mod copies;
 mod limits;
 

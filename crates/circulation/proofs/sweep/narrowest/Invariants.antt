@@ -1,5 +1,4 @@
 use Rattle.std.proofs.Common.{◌-◌}
-use Rattle.hour.specs.Market.{at}
 use Rattle.paths.specs.Search.{market_given, outcome_given}
 use Rattle.circulation.specs.Given.{plan_given}
 use Rattle.circulation.proofs.OnTables.{Narrows}

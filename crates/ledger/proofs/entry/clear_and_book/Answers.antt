@@ -1,4 +1,4 @@
-use Rattle.std.proofs.Common.{◌+◌, ◌*◌, arith}
+use Rattle.std.proofs.Common.{◌*◌, arith}
 use Rattle.prices.proofs.Entries.{past_same}
 use Rattle.ledger.specs.Money.{market_said, row_count}
 use Rattle.ledger.proofs.Booked.{payable_found, booked_front, behind_kept, wiped_counted}

@@ -1,5 +1,4 @@
 use Rattle.std.proofs.Common.{sym, ◌∙◌}
-use Rattle.paths.specs.Plan.{asks_less}
 use Rattle.paths.proofs.Exits.{first_here, first_past}
 use Rattle.paths.proofs.search.find_paying.Goals as goal
 

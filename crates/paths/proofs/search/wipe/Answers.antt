@@ -1,4 +1,4 @@
-use Rattle.std.proofs.Common.{arith, rules}
+use Rattle.std.proofs.Common.{arith}
 use Rattle.std.proofs.lemmas.List.Edits.{fill_by_more}
 use Rattle.paths.proofs.Exits.{wiped_all}
 use Rattle.paths.proofs.search.wipe.Goals as goal

@@ -1,4 +1,4 @@
-use Rattle.std.proofs.Common.{refl, arith, rules}
+use Rattle.std.proofs.Common.{refl, arith}
 use Rattle.paths.proofs.Looked.{buy_looks}
 use Rattle.paths.proofs.takers.look_at_buys.Goals as goal
 

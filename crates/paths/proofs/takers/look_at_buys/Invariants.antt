@@ -1,4 +1,3 @@
-use Rattle.std.proofs.Common.{ℕ}
 use Rattle.paths.specs.Search.{market_given, outcome_given, Takers, Givers}
 use Rattle.paths.proofs.takers.look_at_buys.Given as goal
 

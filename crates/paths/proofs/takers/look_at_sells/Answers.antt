@@ -1,4 +1,4 @@
-use Rattle.std.proofs.Common.{refl, arith, rules}
+use Rattle.std.proofs.Common.{refl, arith}
 use Rattle.paths.proofs.Looked.{sell_looks}
 use Rattle.paths.proofs.takers.look_at_sells.Goals as goal
 

@@ -1,4 +1,4 @@
-use Rattle.std.proofs.Common.{ℕ, ◌+◌}
+use Rattle.std.proofs.Common.{◌+◌}
 use Rattle.paths.specs.Search.{market_given, outcome_given, Takers, Givers}
 use Rattle.paths.proofs.takers.look_at_sells.Given as goal
 
