@@ -8,3 +8,4 @@ pub mod Bytes
 pub mod Books
 pub mod Promises
 pub mod Text
+pub mod Faults

@@ -6,10 +6,9 @@
 --   item_fault m         the first rule that a buy, a sell or a line breaks, in this order, each by number
 --   lent_fault k n need  a lent slice with number k that has n numbers is shorter than needed
 --   results_fault n need the first of the slices 0 to 3, which hold a result, that is shorter than needed
---   results_need m       how long these are for the market m: a number for each buy, sell, line and zone
 --   KeepsRules m         all that the rules ask of an hour, in words of the market
 --
--- A place is that of the byte in the written hour (see Layout).
+-- A place is that of the byte in the written hour (see bid_place and line_place).
 use Rattle.std.specs.Prelude.{ℕ, ◌+◌, ◌*◌, ◌<◌, ◌≤◌, ◌||◌, List, length, Option, ◌==◌, nat_le, nat_lt}
 use Rattle.hour.specs.First.{when, ◌else◌, first}
 use Rattle.hour.specs.Market.{Market, bid, line}
@@ -99,15 +98,6 @@ results_fault has needed =
     else lent_fault 1 has.sold needed.sold
     else lent_fault 2 has.flow needed.flow
     else lent_fault 3 has.prices needed.prices
-
-abbrev pub results_need : Market → Lengths
-results_need m =
-    record {
-      bought = length m.buys;
-      sold = length m.sells;
-      flow = length m.lines;
-      prices = m.zones;
-    }
 
 pub record BidKept (z : ℕ) (b : Bid) : Type 0 where
   pub zone : b.zone < z

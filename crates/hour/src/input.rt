@@ -1,6 +1,8 @@
 // A program's call, its files and standard input, read whole, and its answer; and what can go wrong with them.
 ghost use Rattle.std.specs.Prelude.{◌≡◌, cond, is_ok};
 ghost use Rattle.std.specs.Process.{exit_status};
+ghost use Rattle.hour.specs.Faults.{fault_shown};
+ghost use Rattle.hour.specs.declared.input.Fault.TheVariants.{Memory};
 
 use std::alloc::AllocError;
 use std::env::Args;
@@ -23,6 +25,8 @@ pub enum Fault {
 
 // One line, whatever the name holds: `{name:?}` writes a line break in it as `\n`.
 impl fmt::Display for Fault {
+    ghost output = { fault_shown };
+
     fn fmt<W: fmt::Write>(&self, f: &mut fmt::Formatter<W>) -> fmt::Result {
         match self {
             Fault::Call => write!(f, "wrong number of arguments"),
@@ -39,8 +43,10 @@ impl fmt::Display for Fault {
 }
 
 impl From<AllocError> for Fault {
-    fn from(_error: AllocError) -> Fault {
-        Fault::Memory
+    ghost from_gives = { λ _ fault. fault ≡ Memory };
+
+    fn from(_error: AllocError) -> Self {
+        Self::Memory
     }
 }
 

@@ -5,7 +5,6 @@
 --   FoundIn r m ..       where m was cleared, what four slices hold is what is found; PromisedIn what is promised of it
 --   Left r n old new     a slice that held old: as it was where the answer is a refusal, else as it was from number n on
 --   Wiped r n old new    the same, with zeros before number n
---   size m               how many bids and lines m has; work_need m how many numbers of work
 --   ragged_fault n       a table of n numbers does not have three for each item
 --   layout_fault ..      the first rule on the counts and lengths of tables that is broken
 --   slices_fault ..      the first slice that is too short for them, of those that hold a result and of the work slice
@@ -47,12 +46,6 @@ Left (Refused refusal) used old new = new ≡ old
 abbrev pub Wiped : Ended → ℕ → List ℕ → List ℕ → Type 0
 Wiped (Done n) used old new = new ≡ replicate used 0 ++ drop used old
 Wiped (Refused refusal) used old new = new ≡ old
-
-abbrev pub size : Market → ℕ
-size m = length m.buys + length m.sells + length m.lines
-
-abbrev pub work_need : Market → ℕ
-work_need m = 64 * size m
 
 abbrev pub ragged_fault : ℕ → Option Refusal
 ragged_fault n = when (not (n % 3 == 0)) (Length n)
