@@ -52,6 +52,10 @@ module _ {A : Type 0} (f : ℕ → Option A) where
       (k n : ℕ) (r : Option A) → k < n → first k f ≡ None → r ≡ f k → is_some r ≡ true → r ≡ first n f
   first_answer k n r below none here some = here ∙ sym (first_found k n below none (ap is_some (sym here) ∙ some))
 
+  -- the same for a loop that leaves with what it finds
+  pub first_some : (k n : ℕ) (x : A) → k < n → first k f ≡ None → f k ≡ Some x → first n f ≡ Some x
+  first_some k n x below none here = first_found k n below none (ap is_some here) ∙ here
+
   -- nothing was found: nothing is there to find
   pub first_none : (n : ℕ) → first n f ≡ None → (k : ℕ) → k < n → f k ≡ None
   first_none zero none k below = absurd (omega arith)

@@ -9,7 +9,8 @@ use Rattle.hour.specs.declared.reading.Head.{Head}
 use Rattle.hour.specs.declared.refusals.Refusal.{Refusal}
 use Rattle.hour.specs.First.{◌else◌}
 use Rattle.hour.specs.Rules.{item_fault, max_zones, max_bids, max_lines, bids_fault, all_lines_fault, bid_fault}
-use Rattle.hour.specs.Rules.{line_fault, bid_place, line_place, zones_fault, buys_fault, sells_fault, lines_fault}
+use Rattle.hour.specs.Rules.{line_fault, bid_place, line_place, zones_fault, count_fault}
+use Rattle.hour.specs.declared.refusals.Sort.TheVariants as sorts
 use Rattle.hour.specs.Bytes.{byte, two, size_said, head_fault, head_of, head_read, bids_read, lines_read, bids_said}
 use Rattle.hour.specs.Bytes.{lines_said, bid_at, line_at, in_first, items_read, market_of, refusal_of}
 use Rattle.hour.proofs.First.{first_same, else_none, else_none_left, else_none_right, when_none, when_false}
@@ -30,9 +31,9 @@ pub record Sound (bs : List ℕ) : Type 0 where
 pub sound_head : (bs : List ℕ) → head_fault bs ≡ None → Sound bs
 sound_head bs none =
     let after_zones = else_none_right (in_first 1 bs (zones_fault (byte bs 0))) _ none in
-    let after_buys = else_none_right (in_first 3 bs (buys_fault (two bs 1))) _ after_zones in
-    let after_sells = else_none_right (in_first 5 bs (sells_fault (two bs 3))) _ after_buys in
-    let after_lines = else_none_right (in_first 7 bs (lines_fault (two bs 5))) _ after_sells in
+    let after_buys = else_none_right (in_first 3 bs (count_fault sorts.Buy (two bs 1))) _ after_zones in
+    let after_sells = else_none_right (in_first 5 bs (count_fault sorts.Sell (two bs 3))) _ after_buys in
+    let after_lines = else_none_right (in_first 7 bs (count_fault sorts.Line (two bs 5))) _ after_sells in
     let size : length bs ≡ size_said bs =
     eqb-true _ _ (not-false _ (when_none (not (eqb (length bs) (size_said bs))) _ after_lines))
     in

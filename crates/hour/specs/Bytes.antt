@@ -15,13 +15,13 @@ use Rattle.std.specs.List.{flat_map}
 use Rattle.hour.specs.First.{when, ◌else◌, first}
 use Rattle.hour.specs.Listed.{listed}
 use Rattle.hour.specs.Market.{Market}
-use Rattle.hour.specs.Rules.{bid_place, line_place, bid_fault, line_fault, zones_fault, buys_fault, sells_fault}
-use Rattle.hour.specs.Rules.{lines_fault, item_fault}
+use Rattle.hour.specs.Rules.{bid_place, line_place, bid_fault, line_fault, zones_fault, count_fault, item_fault}
 use Rattle.hour.specs.declared.items.Bid.{Bid}
 use Rattle.hour.specs.declared.items.Line.{Line}
 use Rattle.hour.specs.declared.reading.Head.{Head}
 use Rattle.hour.specs.declared.refusals.Refusal.{Refusal}
 use Rattle.hour.specs.declared.refusals.Refusal.TheVariants.{Length}
+use Rattle.hour.specs.declared.refusals.Sort.TheVariants as sorts
 
 abbrev pub byte : List ℕ → ℕ → ℕ
 byte bs i = slice_index bs i
@@ -65,9 +65,9 @@ in_first n bs fault = cond (nat_le n (length bs)) fault None
 abbrev pub head_fault : List ℕ → Option Refusal
 head_fault bs =
     in_first 1 bs (zones_fault (byte bs 0))
-    else in_first 3 bs (buys_fault (two bs 1))
-    else in_first 5 bs (sells_fault (two bs 3))
-    else in_first 7 bs (lines_fault (two bs 5))
+    else in_first 3 bs (count_fault sorts.Buy (two bs 1))
+    else in_first 5 bs (count_fault sorts.Sell (two bs 3))
+    else in_first 7 bs (count_fault sorts.Line (two bs 5))
     else when (not (length bs == size_said bs)) (Length (length bs))
 
 -- the counts that the head says, or its refusal

@@ -2,6 +2,7 @@
 --
 --   bid_fault z p b      the first rule that a bid b at place p breaks, in an hour of z zones: zone, price, amount
 --   line_fault z p l     the same for a line: from, to, capacity
+--   count_fault s n      the rule on the number n of entries of a sort s
 --   counts_fault ..      the first rule on numbers of zones, buys, sells and lines that is broken; shape_fault m the same of m
 --   item_fault m         the first rule that a buy, a sell or a line breaks, in this order, each by number
 --   lent_fault k n need  a lent slice with number k that has n numbers is shorter than needed
@@ -17,6 +18,7 @@ use Rattle.hour.specs.declared.items.Line.{Line}
 use Rattle.hour.specs.declared.refusals.Refusal.{Refusal}
 use Rattle.hour.specs.declared.refusals.Refusal.TheVariants.{Zones, TooMany, BidZone, BidPrice, BidAmount, LineZone}
 use Rattle.hour.specs.declared.refusals.Refusal.TheVariants.{LineCapacity, Lent}
+use Rattle.hour.specs.declared.refusals.Sort.{Sort}
 use Rattle.hour.specs.declared.refusals.Sort.TheVariants as sorts
 use Rattle.hour.specs.declared.rules.Lengths.{Lengths}
 
@@ -46,14 +48,14 @@ line_place bids k = 7 + 7 * bids + 5 * k
 abbrev pub zones_fault : ℕ → Option Refusal
 zones_fault z = when (z == 0 || nat_lt max_zones z) (Zones z)
 
-abbrev pub buys_fault : ℕ → Option Refusal
-buys_fault n = when (nat_lt max_bids n) (TooMany sorts.Buy n)
+-- how many of each sort an hour has at most, and the rule on it
+abbrev pub most_of : Sort → ℕ
+most_of sorts.Buy = max_bids
+most_of sorts.Sell = max_bids
+most_of sorts.Line = max_lines
 
-abbrev pub sells_fault : ℕ → Option Refusal
-sells_fault n = when (nat_lt max_bids n) (TooMany sorts.Sell n)
-
-abbrev pub lines_fault : ℕ → Option Refusal
-lines_fault n = when (nat_lt max_lines n) (TooMany sorts.Line n)
+abbrev pub count_fault : Sort → ℕ → Option Refusal
+count_fault sort n = when (nat_lt (most_of sort) n) (TooMany sort n)
 
 abbrev pub bid_fault : ℕ → ℕ → Bid → Option Refusal
 bid_fault z place b =
@@ -68,14 +70,11 @@ line_fault z place l =
     else when (nat_lt max_amount l.capacity) (LineCapacity (place + 2) l.capacity)
 
 abbrev pub counts_fault : ℕ → ℕ → ℕ → ℕ → Option Refusal
-counts_fault zones buys sells lines = zones_fault zones else buys_fault buys else sells_fault sells else lines_fault lines
+counts_fault zones buys sells lines =
+    zones_fault zones else count_fault sorts.Buy buys else count_fault sorts.Sell sells else count_fault sorts.Line lines
 
 abbrev pub shape_fault : Market → Option Refusal
-shape_fault m =
-    zones_fault m.zones
-    else buys_fault (length m.buys)
-    else sells_fault (length m.sells)
-    else lines_fault (length m.lines)
+shape_fault m = counts_fault m.zones (length m.buys) (length m.sells) (length m.lines)
 
 abbrev pub bids_fault : ℕ → ℕ → List Bid → Option Refusal
 bids_fault z before bs = first (length bs) (λ k. bid_fault z (bid_place (before + k)) (bid bs k))

@@ -1,12 +1,13 @@
 // The first rule that an hour's bytes break, section by section: the head with the length, the bids, the lines.
 ghost use Rattle.std.specs.Prelude.{◌≡◌, ◌+◌, ◌*◌, ◌<◌, ◌≤◌, length, Ok, MatchOption};
+ghost use Rattle.std.specs.Result.{result_err};
 ghost use Rattle.hour.specs.Rules.{bid_place, line_place, item_fault};
 ghost use Rattle.hour.specs.Bytes.{byte, two, three, bid_at, line_at, head_read, bids_read, lines_read, market_of, refusal_of};
 
 use crate::facts::items_stand;
 use crate::items::{Bid, Line};
-use crate::refusals::Refusal;
-use crate::rules::{check_bid, check_buys, check_line, check_lines, check_sells, check_zones};
+use crate::refusals::{Refusal, Sort};
+use crate::rules::{check_bid, check_count, check_line, check_zones};
 
 // The number in the two bytes from `i` on, low byte first.
 pub fn two_bytes(bytes: &[u8], i: usize) -> u64
@@ -73,31 +74,14 @@ pub fn read_head(bytes: &[u8]) -> Result<Head, Refusal>
     ensures { result ≡ head_read bytes.now }
 {
     let cut = Refusal::Length { came: bytes.len() };
-    let Some(zones) = bytes.first() else {
-        return Err(cut);
-    };
-    let zones = u64::from(*zones);
-    if let Some(refusal) = check_zones(zones) {
-        return Err(refusal);
-    }
-    let Some(buys) = count_at(bytes, 1) else {
-        return Err(cut);
-    };
-    if let Some(refusal) = check_buys(buys) {
-        return Err(refusal);
-    }
-    let Some(sells) = count_at(bytes, 3) else {
-        return Err(cut);
-    };
-    if let Some(refusal) = check_sells(sells) {
-        return Err(refusal);
-    }
-    let Some(lines) = count_at(bytes, 5) else {
-        return Err(cut);
-    };
-    if let Some(refusal) = check_lines(lines) {
-        return Err(refusal);
-    }
+    let zones = u64::from(*bytes.first().ok_or(cut)?);
+    check_zones(zones)?;
+    let buys = count_at(bytes, 1).ok_or(cut)?;
+    check_count(Sort::Buy, buys)?;
+    let sells = count_at(bytes, 3).ok_or(cut)?;
+    check_count(Sort::Sell, sells)?;
+    let lines = count_at(bytes, 5).ok_or(cut)?;
+    check_count(Sort::Line, lines)?;
     if bytes.len() as u64 != 7 + 7 * (buys + sells) + 5 * lines {
         return Err(cut);
     }
@@ -110,60 +94,53 @@ pub fn read_head(bytes: &[u8]) -> Result<Head, Refusal>
 }
 
 // The first rule that one of `count` bids breaks, which stand behind `before` others.
-fn check_bids(bytes: &[u8], zones: u64, before: usize, count: usize) -> Option<Refusal>
+fn check_bids(bytes: &[u8], zones: u64, before: usize, count: usize) -> Result<(), Refusal>
     requires { bid_place (before + count) ≤ length bytes.now }
-    ensures { result ≡ bids_read zones bytes.now before count }
+    ensures { result_err result ≡ bids_read zones bytes.now before count }
 {
     for k in 0..count {
         let place = 7 + 7 * (before + k);
-        let fault = check_bid(zones, place, bid_from(bytes, place));
-        if fault.is_some() {
-            return fault;
-        }
+        check_bid(zones, place, bid_from(bytes, place))?;
     }
-    None
+    Ok(())
 }
 
 // The first rule that one of `count` lines breaks, which stand behind so many bids.
-fn check_all_lines(bytes: &[u8], zones: u64, bids: usize, count: usize) -> Option<Refusal>
+fn check_all_lines(bytes: &[u8], zones: u64, bids: usize, count: usize) -> Result<(), Refusal>
     requires { line_place bids count ≤ length bytes.now }
-    ensures { result ≡ lines_read zones bytes.now bids count }
+    ensures { result_err result ≡ lines_read zones bytes.now bids count }
 {
     for k in 0..count {
         let place = 7 + 7 * bids + 5 * k;
-        let fault = check_line(zones, place, line_from(bytes, place));
-        if fault.is_some() {
-            return fault;
-        }
+        check_line(zones, place, line_from(bytes, place))?;
     }
-    None
+    Ok(())
 }
 
 // The first rule that a bid or a line breaks, of bytes with this head.
-pub fn check_items(bytes: &[u8], head: Head) -> Option<Refusal>
+pub fn check_items(bytes: &[u8], head: Head) -> Result<(), Refusal>
     requires { head_read bytes.now ≡ Ok head }
-    ensures { result ≡ item_fault (market_of bytes.now) }
+    ensures { result_err result ≡ item_fault (market_of bytes.now) }
 {
     items_stand(bytes, head);
     let buys = head.buys as usize;
     let sells = head.sells as usize;
-    let fault = check_bids(bytes, head.zones, 0, buys);
-    if fault.is_some() {
-        return fault;
-    }
-    let fault = check_bids(bytes, head.zones, buys, sells);
-    if fault.is_some() {
-        return fault;
-    }
+    check_bids(bytes, head.zones, 0, buys)?;
+    check_bids(bytes, head.zones, buys, sells)?;
     check_all_lines(bytes, head.zones, buys + sells, head.lines as usize)
 }
 
-// The first rule that the bytes break, or nothing: then they are an hour.
+// The first rule that the bytes break.
+pub fn check_bytes(bytes: &[u8]) -> Result<(), Refusal>
+    ensures { result_err result ≡ refusal_of bytes.now }
+{
+    let head = read_head(bytes)?;
+    check_items(bytes, head)
+}
+
+// The same, or nothing: then they are an hour.
 pub fn refusal(bytes: &[u8]) -> Option<Refusal>
     ensures { result ≡ refusal_of bytes.now }
 {
-    match read_head(bytes) {
-        Ok(head) => check_items(bytes, head),
-        Err(refusal) => Some(refusal),
-    }
+    check_bytes(bytes).err()
 }

@@ -26,7 +26,7 @@ impl Sort {
     }
 }
 
-#[derive(Clone, Copy)]
+#[derive(Clone, Copy, PartialEq, Eq)]
 pub enum Refusal {
     // Fewer bytes than the counts say, or more.
     Length { came: usize },

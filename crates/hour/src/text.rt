@@ -6,7 +6,6 @@ ghost use Rattle.hour.specs.Text.{buy_rows, sell_rows, line_rows, market_rows, l
 
 use crate::items::{Bid, Line};
 use crate::money::Price;
-use crate::reading::refusal;
 use crate::view::Hour;
 use std::alloc::{AllocError, Global};
 
@@ -85,10 +84,10 @@ fn market_rows(text: &mut String, hour: Hour<'_>) -> Result<(), AllocError>
 fn write_listing(text: &mut String, bytes: &[u8]) -> Result<(), AllocError>
     ensures { Adds result text.old (listing_of bytes.now) text.new }
 {
-    if let Some(refusal) = refusal(bytes) {
-        return writeln!(text, "{refusal}");
+    match Hour::try_from(bytes) {
+        Ok(hour) => market_rows(text, hour),
+        Err(refusal) => writeln!(text, "{refusal}"),
     }
-    market_rows(text, Hour::of(bytes))
 }
 
 // The text of any bytes; an error is want of memory.

@@ -1,12 +1,14 @@
 // A well-formed hour, seen in its bytes.
-ghost use Rattle.std.specs.Prelude.{◌≡◌, ◌+◌, ◌<◌, ◌≤◌, false, length, is_some};
+ghost use Rattle.std.specs.Prelude.{◌≡◌, ◌+◌, ◌<◌, ◌≤◌, false, length, is_some, IfOk};
+ghost use Rattle.std.specs.Result.{result_err};
 ghost use Rattle.hour.specs.Bytes.{byte, two, market_of, refusal_of};
 ghost use Rattle.hour.specs.Market.{bid, line};
 ghost use Rattle.hour.specs.Rules.{line_place, BidKept, LineKept};
 
 use crate::facts::{buy_stands, counts_stand, line_stands, sell_stands};
 use crate::items::{Bid, Line};
-use crate::reading::{bid_from, line_from, two_bytes};
+use crate::reading::{bid_from, check_bytes, line_from, two_bytes};
+use crate::refusals::Refusal;
 
 // The bytes of an hour that keeps every rule, with its counts; bids and lines are read where they stand.
 #[derive(Clone, Copy)]
@@ -99,5 +101,19 @@ impl<'a> Hour<'a> {
     {
         line_stands(self.bytes, k);
         line_from(self.bytes, 7 + 7 * (self.buys + self.sells) + 5 * k)
+    }
+}
+
+// The hour that any bytes say, or why they say none.
+impl<'a> TryFrom<&'a [u8]> for Hour<'a> {
+    type Error = Refusal;
+
+    ghost try_from_gives = { λ bytes result.
+        (result_err result ≡ refusal_of bytes.now)
+        × IfOk result (λ hour. hour.bytes.now ≡ bytes.now) };
+
+    fn try_from(bytes: &'a [u8]) -> Result<Self, Refusal> {
+        check_bytes(bytes)?;
+        Ok(Hour::of(bytes))
     }
 }

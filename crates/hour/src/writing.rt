@@ -2,6 +2,7 @@
 ghost use Rattle.std.specs.Prelude.{◌≡◌, ◌+◌, ◌*◌, ◌≤◌, false, ◌++◌, length, drop, is_some};
 ghost use Rattle.std.proofs.Math.Seq.{paste};
 ghost use Rattle.std.specs.List.{flat_map};
+ghost use Rattle.std.specs.Result.{result_err};
 ghost use Rattle.hour.specs.Bytes.{low_bytes, bid_bytes, line_bytes, head_bytes, bytes_of};
 ghost use Rattle.hour.specs.Rules.{bids_fault, all_lines_fault, shape_fault, item_fault};
 ghost use Rattle.hour.specs.Books.{market_in, size_of, write_fault, written, left_by};
@@ -9,7 +10,7 @@ ghost use Rattle.hour.specs.Books.{market_in, size_of, write_fault, written, lef
 use crate::books::Book;
 use crate::items::{Bid, Line};
 use crate::refusals::Refusal;
-use crate::rules::{check_bid, check_buys, check_line, check_lines, check_sells, check_zones};
+use crate::rules::{check_bid, check_counts, check_lent, check_line};
 
 // The lowest `width` bytes of a number from `at` on, low byte first.
 fn put_low(out: &mut [u8], at: usize, width: usize, number: u64)
@@ -70,80 +71,57 @@ fn put_head(out: &mut [u8], book: Book<'_>)
 }
 
 // The first rule that one of the bids breaks, which stand behind `before` others.
-fn check_bids(zones: u64, before: usize, bids: &[Bid]) -> Option<Refusal>
+fn check_bids(zones: u64, before: usize, bids: &[Bid]) -> Result<(), Refusal>
     requires { before + length bids.now ≤ 2000 }
-    ensures { result ≡ bids_fault zones before bids.now }
+    ensures { result_err result ≡ bids_fault zones before bids.now }
 {
     for k in 0..bids.len() {
-        let fault = check_bid(zones, 7 + 7 * (before + k), bids[k]);
-        if fault.is_some() {
-            return fault;
-        }
+        check_bid(zones, 7 + 7 * (before + k), bids[k])?;
     }
-    None
+    Ok(())
 }
 
 // The first rule that one of the lines breaks, which stand behind so many bids.
-fn check_all_lines(zones: u64, bids: usize, lines: &[Line]) -> Option<Refusal>
+fn check_all_lines(zones: u64, bids: usize, lines: &[Line]) -> Result<(), Refusal>
     requires { bids + length lines.now ≤ 3000 }
-    ensures { result ≡ all_lines_fault zones bids lines.now }
+    ensures { result_err result ≡ all_lines_fault zones bids lines.now }
 {
     for k in 0..lines.len() {
-        let fault = check_line(zones, 7 + 7 * bids + 5 * k, lines[k]);
-        if fault.is_some() {
-            return fault;
-        }
+        check_line(zones, 7 + 7 * bids + 5 * k, lines[k])?;
     }
-    None
+    Ok(())
 }
 
 // The first rule on the numbers of zones, buys, sells and lines that is broken.
-fn check_shape(book: Book<'_>) -> Option<Refusal>
-    ensures { result ≡ shape_fault (market_in book.entry) }
+fn check_shape(book: Book<'_>) -> Result<(), Refusal>
+    ensures { result_err result ≡ shape_fault (market_in book.entry) }
 {
-    let fault = check_zones(book.zones);
-    if fault.is_some() {
-        return fault;
-    }
-    let fault = check_buys(book.buys.len() as u64);
-    if fault.is_some() {
-        return fault;
-    }
-    let fault = check_sells(book.sells.len() as u64);
-    if fault.is_some() {
-        return fault;
-    }
-    check_lines(book.lines.len() as u64)
+    check_counts(
+        book.zones,
+        book.buys.len() as u64,
+        book.sells.len() as u64,
+        book.lines.len() as u64,
+    )
 }
 
 // The first rule that a bid or a line breaks, of an hour that is not too large.
-fn check_items(book: Book<'_>) -> Option<Refusal>
+fn check_items(book: Book<'_>) -> Result<(), Refusal>
     requires { is_some (shape_fault (market_in book)) ≡ false }
-    ensures { result ≡ item_fault (market_in book.entry) }
+    ensures { result_err result ≡ item_fault (market_in book.entry) }
 {
-    let fault = check_bids(book.zones, 0, book.buys);
-    if fault.is_some() {
-        return fault;
-    }
-    let fault = check_bids(book.zones, book.buys.len(), book.sells);
-    if fault.is_some() {
-        return fault;
-    }
+    check_bids(book.zones, 0, book.buys)?;
+    check_bids(book.zones, book.buys.len(), book.sells)?;
     check_all_lines(book.zones, book.buys.len() + book.sells.len(), book.lines)
 }
 
 // Why an hour is not written into a slice of so many bytes, in the order in which a reader would look: the shape, then the
 // lent slice, which has number 0, then the bids and lines.
-fn check_book(book: Book<'_>, lent: usize) -> Option<Refusal>
-    ensures { result ≡ write_fault (market_in book.entry) lent }
+fn check_book(book: Book<'_>, lent: usize) -> Result<(), Refusal>
+    ensures { result_err result ≡ write_fault (market_in book.entry) lent }
 {
-    let fault = check_shape(book);
-    if fault.is_some() {
-        return fault;
-    }
-    if lent < 7 + 7 * (book.buys.len() + book.sells.len()) + 5 * book.lines.len() {
-        return Some(Refusal::Lent { slice: 0 });
-    }
+    check_shape(book)?;
+    let needed = 7 + 7 * (book.buys.len() + book.sells.len()) + 5 * book.lines.len();
+    check_lent(0, lent, needed)?;
     check_items(book)
 }
 
@@ -167,8 +145,6 @@ pub fn write(book: Book<'_>, out: &mut [u8]) -> Result<usize, Refusal>
     ensures answer { result ≡ written (market_in book.entry) (length out.old) }
     ensures bytes { out.new ≡ left_by (market_in book.entry) result out.old }
 {
-    if let Some(refusal) = check_book(book, out.len()) {
-        return Err(refusal);
-    }
+    check_book(book, out.len())?;
     Ok(put_hour(out, book))
 }

@@ -1,9 +1,6 @@
 use Rattle.std.proofs.Common.{rules}
-use Rattle.hour.proofs.First.{first_more, first_found}
+use Rattle.hour.proofs.First.{first_some}
 use Rattle.hour.proofs.reading.check_all_lines.Goals as goal
 
-pub returns-then-is_some : goal.returns-then-is_some
-returns-then-is_some c = search (rules, first_found)
-
-pub loop-k-preserved : goal.loop-k-preserved
-loop-k-preserved c = search (rules, first_more)
+pub returns-in_err-check_line : goal.returns-in_err-check_line
+returns-in_err-check_line c = search (rules, first_some)

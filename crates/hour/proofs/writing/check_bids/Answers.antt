@@ -1,11 +1,10 @@
-use Rattle.std.proofs.Common.{sym, rules}
-use Rattle.hour.proofs.First.{first_more, first_answer}
+use Rattle.std.proofs.Common.{◌≡◌, Some, ◌∙◌, sym, rules}
+use Rattle.std.specs.Result.{result_err}
+use Rattle.hour.proofs.First.{first_some}
 use Rattle.hour.proofs.writing.check_bids.Goals as goal
 
-pub returns-then-is_some : goal.returns-then-is_some
-returns-then-is_some c =
-    first_answer _ c.loop-k.k _ _
-    c.loop-k-test.true c.loop-k.invariant c.check_bid-fault.ensures (sym c.if-is_some.ensures)
-
-pub loop-k-preserved : goal.loop-k-preserved
-loop-k-preserved c = search (rules, first_more)
+pub returns-in_err-check_bid : goal.returns-in_err-check_bid
+returns-in_err-check_bid c =
+    let found : result_err c.check_bid.result ≡ Some c.in_err-check_bid.field-0.0 = search rules in
+    let left : result_err c.from_residual.result ≡ Some c.in_err-check_bid.field-0.0 = search rules in
+    left ∙ sym (first_some _ c.loop-k.k _ _ c.loop-k-test.true c.loop-k.invariant (sym c.check_bid.ensures ∙ found))
