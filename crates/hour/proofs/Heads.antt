@@ -8,6 +8,7 @@ use Rattle.hour.specs.declared.items.Line.{Line}
 use Rattle.hour.specs.declared.reading.Head.{Head}
 use Rattle.hour.specs.declared.refusals.Refusal.{Refusal}
 use Rattle.hour.specs.First.{◌else◌}
+use Rattle.hour.specs.Market.{no_bid, no_line}
 use Rattle.hour.specs.Rules.{item_fault, max_zones, max_bids, max_lines, bids_fault, all_lines_fault, bid_fault}
 use Rattle.hour.specs.Rules.{line_fault, bid_place, line_place, zones_fault, count_fault}
 use Rattle.hour.specs.declared.refusals.Sort.TheVariants as sorts
@@ -91,7 +92,6 @@ pub bids_fault_said :
     bids_fault z before (bids_said bs before count) ≡ bids_read z bs before count
 bids_fault_said z bs before count =
     let said : ℕ → Bid = λ k. bid_at bs (bid_place (before + k)) in
-    let no_bid : Bid = record { zone = 0; price = 0; amount = 0 } in
     rw (length-map-range_with_len said 0 count)
     (first_same _ _ count
     (λ k below. ap (bid_fault z (bid_place (before + k))) (get_or-map-range_with_len said 0 count k k no_bid below (zero-add k))))
@@ -101,7 +101,6 @@ pub lines_fault_said :
     all_lines_fault z bids (lines_said bs bids count) ≡ lines_read z bs bids count
 lines_fault_said z bs bids count =
     let said : ℕ → Line = λ k. line_at bs (line_place bids k) in
-    let no_line : Line = record { from = 0; to = 0; capacity = 0 } in
     rw (length-map-range_with_len said 0 count)
     (first_same _ _ count
     (λ k below. ap (line_fault z (line_place bids k)) (get_or-map-range_with_len said 0 count k k no_line below (zero-add k))))

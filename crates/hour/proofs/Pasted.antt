@@ -9,6 +9,7 @@ use Rattle.hour.specs.declared.items.Line.{Line}
 use Rattle.hour.specs.Books.{size_of}
 use Rattle.hour.specs.Bytes.{low_bytes, bid_bytes, line_bytes, head_bytes, bytes_of}
 use Rattle.hour.specs.Market.{Market}
+use Rattle.hour.specs.Rules.{bid_place, line_place}
 
 pub paste_none : (d s : List ℕ) (at : ℕ) → d ≡ paste d at s 0
 paste_none d s at = sym (simp (append-nil, add-zero, take-append-drop))
@@ -142,9 +143,9 @@ length_bytes_of m =
 pub paste_hour :
     (m : Market) (d e f g h : List ℕ) →
     e ≡ paste d 0 (head_bytes m) 7 →
-    f ≡ paste e 7 (flat_map bid_bytes m.buys) (7 * length m.buys) →
-    g ≡ paste f (7 + 7 * length m.buys) (flat_map bid_bytes m.sells) (7 * length m.sells) →
-    h ≡ paste g (7 + 7 * (length m.buys + length m.sells)) (flat_map line_bytes m.lines) (5 * length m.lines) →
+    f ≡ paste e (bid_place 0) (flat_map bid_bytes m.buys) (7 * length m.buys) →
+    g ≡ paste f (bid_place (length m.buys + 0)) (flat_map bid_bytes m.sells) (7 * length m.sells) →
+    h ≡ paste g (line_place (length m.buys + length m.sells) 0) (flat_map line_bytes m.lines) (5 * length m.lines) →
     h ≡ bytes_of m ++ drop (size_of m) d
 paste_hour m d e f g h head buys sells lines =
     let nb = length m.buys in
@@ -159,7 +160,7 @@ paste_hour m d e f g h head buys sells lines =
     let size : 7 + 7 * nb + 7 * ns + 5 * nl ≡ size_of m = omega arith in
     let with_buys = paste_on d e f (head_bytes m) bb 7 (7 * nb) 7 refl buys_long refl head buys in
     let with_sells =
-    paste_on d f g (head_bytes m ++ bb) sb (7 + 7 * nb) (7 * ns) _ (upto_buys m) sells_long refl with_buys sells
+    paste_on d f g (head_bytes m ++ bb) sb (7 + 7 * nb) (7 * ns) _ (upto_buys m) sells_long (omega arith) with_buys sells
     in
     paste_on d g h (head_bytes m ++ bb ++ sb) lb (7 + 7 * nb + 7 * ns) (5 * nl) _
     (upto_sells m) lines_long (omega arith) with_sells lines

@@ -24,15 +24,21 @@ pub record Outcome : Type 0 where
   pub sold : List ℕ
   pub flow : List ℕ
 
--- the number, the bid, the line at a place of a list
+-- the number, the bid, the line at a place of a list; behind its end these are 0
 abbrev pub at : List ℕ → ℕ → ℕ
 at xs k = slice_index xs k
 
+abbrev pub no_bid : Bid
+no_bid = record { zone = 0; price = 0; amount = 0 }
+
+abbrev pub no_line : Line
+no_line = record { from = 0; to = 0; capacity = 0 }
+
 abbrev pub bid : List Bid → ℕ → Bid
-bid bs k = slice_index_or bs k (record { zone = 0; price = 0; amount = 0 })
+bid bs k = slice_index_or bs k no_bid
 
 abbrev pub line : List Line → ℕ → Line
-line ls k = slice_index_or ls k (record { from = 0; to = 0; capacity = 0 })
+line ls k = slice_index_or ls k no_line
 
 pub record Proper (m : Market) : Type 0 where
   pub buys : (k : ℕ) → k < length m.buys → (bid m.buys k).zone < m.zones

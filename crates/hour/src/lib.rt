@@ -2,6 +2,8 @@
 #![tactic(auto)]
 
 mod books;
+mod bytes;
+mod entries;
 mod facts;
 mod input;
 mod items;
@@ -15,6 +17,7 @@ mod view;
 mod writing;
 
 pub use books::Book;
+pub use entries::Entry;
 pub use input::{
     Fault, Told, arguments, read_file, read_standard_input, status, tell, write_answer,
 };

@@ -1,53 +1,16 @@
 // The first rule that an hour's bytes break, section by section: the head with the length, the bids, the lines.
-ghost use Rattle.std.specs.Prelude.{◌≡◌, ◌+◌, ◌*◌, ◌<◌, ◌≤◌, length, Ok, MatchOption};
+ghost use Rattle.std.specs.Prelude.{◌≡◌, ◌+◌, ◌<◌, ◌≤◌, length, Ok, MatchOption};
 ghost use Rattle.std.specs.Result.{result_err};
-ghost use Rattle.hour.specs.Rules.{bid_place, line_place, item_fault};
-ghost use Rattle.hour.specs.Bytes.{byte, two, three, bid_at, line_at, head_read, bids_read, lines_read, market_of, refusal_of};
+ghost use Rattle.hour.specs.First.{first};
+ghost use Rattle.hour.specs.Rules.{item_fault};
+ghost use Rattle.hour.specs.Bytes.{two, head_read, market_of, refusal_of};
 
+use crate::bytes::two_bytes;
+use crate::entries::Entry;
 use crate::facts::items_stand;
 use crate::items::{Bid, Line};
 use crate::refusals::{Refusal, Sort};
-use crate::rules::{check_bid, check_count, check_line, check_zones};
-
-// The number in the two bytes from `i` on, low byte first.
-pub fn two_bytes(bytes: &[u8], i: usize) -> u64
-    requires { i + 1 < length bytes.now }
-    ensures { result ≡ two bytes.now i }
-{
-    u64::from(bytes[i]) + 256 * u64::from(bytes[i + 1])
-}
-
-// The number in the three bytes from `i` on, low byte first.
-pub fn three_bytes(bytes: &[u8], i: usize) -> u64
-    requires { i + 2 < length bytes.now }
-    ensures { result ≡ three bytes.now i }
-{
-    u64::from(bytes[i]) + 256 * u64::from(bytes[i + 1]) + 65536 * u64::from(bytes[i + 2])
-}
-
-// The bid whose first byte stands at `i`.
-pub fn bid_from(bytes: &[u8], i: usize) -> Bid
-    requires { i + 6 < length bytes.now }
-    ensures { result ≡ bid_at bytes.now i }
-{
-    Bid {
-        zone: u64::from(bytes[i]),
-        price: three_bytes(bytes, i + 1),
-        amount: three_bytes(bytes, i + 4),
-    }
-}
-
-// The line whose first byte stands at `i`.
-pub fn line_from(bytes: &[u8], i: usize) -> Line
-    requires { i + 4 < length bytes.now }
-    ensures { result ≡ line_at bytes.now i }
-{
-    Line {
-        from: u64::from(bytes[i]),
-        to: u64::from(bytes[i + 1]),
-        capacity: three_bytes(bytes, i + 2),
-    }
-}
+use crate::rules::{check_count, check_zones};
 
 // The counts of an hour, as its first seven bytes say.
 #[derive(Clone, Copy)]
@@ -93,26 +56,14 @@ pub fn read_head(bytes: &[u8]) -> Result<Head, Refusal>
     })
 }
 
-// The first rule that one of `count` bids breaks, which stand behind `before` others.
-fn check_bids(bytes: &[u8], zones: u64, before: usize, count: usize) -> Result<(), Refusal>
-    requires { bid_place (before + count) ≤ length bytes.now }
-    ensures { result_err result ≡ bids_read zones bytes.now before count }
+// The first rule that one of `count` entries breaks, which stand behind so many bids.
+fn check_each<E: Entry>(bytes: &[u8], zones: u64, bids: usize, count: usize) -> Result<(), Refusal>
+    requires { E.place bids count ≤ length bytes.now }
+    ensures { result_err result ≡ first count (λ k. E.fault zones (E.place bids k) (E.said bytes.now (E.place bids k))) }
 {
     for k in 0..count {
-        let place = 7 + 7 * (before + k);
-        check_bid(zones, place, bid_from(bytes, place))?;
-    }
-    Ok(())
-}
-
-// The first rule that one of `count` lines breaks, which stand behind so many bids.
-fn check_all_lines(bytes: &[u8], zones: u64, bids: usize, count: usize) -> Result<(), Refusal>
-    requires { line_place bids count ≤ length bytes.now }
-    ensures { result_err result ≡ lines_read zones bytes.now bids count }
-{
-    for k in 0..count {
-        let place = 7 + 7 * bids + 5 * k;
-        check_line(zones, place, line_from(bytes, place))?;
+        let place = E::place(bids, k);
+        E::read(bytes, place).check(zones, place)?;
     }
     Ok(())
 }
@@ -125,9 +76,10 @@ pub fn check_items(bytes: &[u8], head: Head) -> Result<(), Refusal>
     items_stand(bytes, head);
     let buys = head.buys as usize;
     let sells = head.sells as usize;
-    check_bids(bytes, head.zones, 0, buys)?;
-    check_bids(bytes, head.zones, buys, sells)?;
-    check_all_lines(bytes, head.zones, buys + sells, head.lines as usize)
+    let lines = head.lines as usize;
+    check_each::<Bid>(bytes, head.zones, 0, buys)?;
+    check_each::<Bid>(bytes, head.zones, buys, sells)?;
+    check_each::<Line>(bytes, head.zones, buys + sells, lines)
 }
 
 // The first rule that the bytes break.

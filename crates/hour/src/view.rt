@@ -5,9 +5,11 @@ ghost use Rattle.hour.specs.Bytes.{byte, two, market_of, refusal_of};
 ghost use Rattle.hour.specs.Market.{bid, line};
 ghost use Rattle.hour.specs.Rules.{line_place, BidKept, LineKept};
 
+use crate::bytes::two_bytes;
+use crate::entries::Entry;
 use crate::facts::{buy_stands, counts_stand, line_stands, sell_stands};
 use crate::items::{Bid, Line};
-use crate::reading::{bid_from, check_bytes, line_from, two_bytes};
+use crate::reading::check_bytes;
 use crate::refusals::Refusal;
 
 // The bytes of an hour that keeps every rule, with its counts; bids and lines are read where they stand.
@@ -82,7 +84,7 @@ impl<'a> Hour<'a> {
         ensures kept { BidKept self.entry.zones result }
     {
         buy_stands(self.bytes, k);
-        bid_from(self.bytes, 7 + 7 * k)
+        Bid::read(self.bytes, Bid::place(0, k))
     }
 
     pub fn sell(self, k: usize) -> Bid
@@ -91,7 +93,7 @@ impl<'a> Hour<'a> {
         ensures kept { BidKept self.entry.zones result }
     {
         sell_stands(self.bytes, k);
-        bid_from(self.bytes, 7 + 7 * (self.buys + k))
+        Bid::read(self.bytes, Bid::place(self.buys, k))
     }
 
     pub fn line(self, k: usize) -> Line
@@ -100,7 +102,7 @@ impl<'a> Hour<'a> {
         ensures kept { LineKept self.entry.zones result }
     {
         line_stands(self.bytes, k);
-        line_from(self.bytes, 7 + 7 * (self.buys + self.sells) + 5 * k)
+        Line::read(self.bytes, Line::place(self.buys + self.sells, k))
     }
 }
 

@@ -1,7 +1,7 @@
 use Rattle.std.proofs.Common.{◌≡◌, ◌-◌, drop}
 use lib.Seq.{paste}
 use Rattle.hour.specs.Bytes.{low_bytes}
-use Rattle.hour.proofs.writing.put_low.Given as goal
+use Rattle.hour.proofs.bytes.put_low.Given as goal
 
 abbrev pub invariant-loop-i : goal.invariant-loop-i
 invariant-loop-i l =

@@ -1,6 +1,6 @@
 use Rattle.std.proofs.Common.{rules}
 use Rattle.hour.proofs.Pasted.{paste_none, low_none, paste_low, low_rest}
-use Rattle.hour.proofs.writing.put_low.Goals as goal
+use Rattle.hour.proofs.bytes.put_low.Goals as goal
 
 pub loop-i-init : goal.loop-i-init
 loop-i-init c = search (rules, paste_none, low_none)
