@@ -1,8 +1,8 @@
 -- How numbers, bids and lines lie in the bytes, and what writing one of them leaves. Assumes nothing.
-use Rattle.std.proofs.Common.{◌≡◌, ℕ, zero, suc, ◌+◌, ◌-◌, ◌*◌, ◌/◌, ◌%◌, ◌<◌, ◌≤◌, List, [], ◌∷◌, ◌++◌, length, get_or, take, drop, set, sym, refl, ap, ◌∙◌, ap₂, add-zero, mul-zero, mul-suc, mul-add, arith}
+use Rattle.std.proofs.Common.{◌≡◌, ℕ, zero, suc, ◌+◌, ◌*◌, ◌/◌, ◌<◌, ◌≤◌, List, [], ◌∷◌, ◌++◌, length, get_or, take, drop, sym, refl, ap, ◌∙◌, ap₂, mul-zero, mul-suc, mul-add, arith}
 use lib.Seq.{paste}
-use Rattle.std.proofs.lemmas.List.Edits.{paste_more, paste-paste, paste_all}
-use Rattle.std.proofs.lemmas.List.{append-nil, length-append, length-take-le, take_all, take-append-drop, take_more, drop_more, flat_map_more}
+use Rattle.std.proofs.lemmas.List.Edits.{paste-paste, paste_all}
+use Rattle.std.proofs.lemmas.List.{length-append, length-take-le, take_more, flat_map_more}
 use Rattle.std.specs.List.{flat_map}
 use Rattle.hour.specs.declared.items.Bid.{Bid}
 use Rattle.hour.specs.declared.items.Line.{Line}
@@ -11,40 +11,9 @@ use Rattle.hour.specs.Bytes.{low_bytes, bid_bytes, line_bytes, head_bytes, bytes
 use Rattle.hour.specs.Market.{Market}
 use Rattle.hour.specs.Rules.{bid_place, line_place}
 
-pub paste_none : (d s : List ℕ) (at : ℕ) → d ≡ paste d at s 0
-paste_none d s at = sym (simp (append-nil, add-zero, take-append-drop))
-
 pub length_low_bytes : (width v : ℕ) → length (low_bytes width v) ≡ width
 length_low_bytes zero v = refl
 length_low_bytes (suc width) v = ap suc (length_low_bytes width (v / 256))
-
-pub low_none : (width number : ℕ) → low_bytes width number ≡ low_bytes (width - 0) number
-low_none width number = ap (λ (n : ℕ). low_bytes n number) (omega arith)
-
--- One byte more of a number: v is what is left of it after i bytes.
-module _ (width number i v : ℕ) (below : i < width)
-    (rest : drop i (low_bytes width number) ≡ low_bytes (width - i) v) where
-  here_and_rest :
-      get_or (low_bytes width number) i 0 ∷ drop (i + 1) (low_bytes width number)
-      ≡ v % 256 ∷ low_bytes (width - (i + 1)) (v / 256)
-  here_and_rest =
-      let within : i < length (low_bytes width number) = rw length_low_bytes below in
-      let one_less : width - i ≡ suc (width - (i + 1)) = omega arith in
-      sym (drop_more (low_bytes width number) i 0 within) ∙ (rest ∙ ap (λ (n : ℕ). low_bytes n v) one_less)
-
-  low_here : get_or (low_bytes width number) i 0 ≡ v % 256
-  low_here = let e = here_and_rest in cc
-
-  pub low_rest : drop (i + 1) (low_bytes width number) ≡ low_bytes (width - (i + 1)) (v / 256)
-  low_rest = let e = here_and_rest in cc
-
-  pub paste_low :
-      (d out : List ℕ) (at : ℕ) → at + width ≤ length d → out ≡ paste d at (low_bytes width number) i →
-      set out (at + i) (v % 256) ≡ paste d at (low_bytes width number) (i + 1)
-  paste_low d out at fits is =
-      let within : i < length (low_bytes width number) = rw length_low_bytes below in
-      let room : at + i < length d = omega arith in
-      rw (is, ← low_here) (paste_more d at (low_bytes width number) i 0 room within)
 
 -- a second write, right behind the first
 pub paste_next :
@@ -91,9 +60,6 @@ module _ {X : Type 0} (f : X → List ℕ) (width : ℕ) (each : (x : X) → wid
   length_joined (x ∷ xs) =
       rw (length-append (f x) (flat_map f xs), ← length_joined xs, ← each x) (omega (arith, mul-suc width (length xs)))
 
-  pub joined_none : (d : List ℕ) (at : ℕ) (xs : List X) → d ≡ paste d at (flat_map f (take 0 xs)) (width * 0)
-  joined_none d at xs = rw (mul-zero width) (paste_none d [] at)
-
   pub joined_next :
       (d out next : List ℕ) (at k : ℕ) (xs : List X) (x : X) → k < length xs → at ≤ length d →
       out ≡ paste d at (flat_map f (take k xs)) (width * k) →
@@ -109,13 +75,6 @@ module _ {X : Type 0} (f : X → List ℕ) (width : ℕ) (each : (x : X) → wid
       let wider : width * k + width ≡ width * (k + 1) = omega (arith, mul-add width k 1) in
       paste_next d out next _ _ at (width * k) width upto (each (get_or xs k x)) room before step
       ∙ ap₂ (λ (bs : List ℕ) (n : ℕ). paste d at bs n) one_more wider
-
-  pub joined_all :
-      (d out : List ℕ) (at k : ℕ) (xs : List X) → k ≡ length xs →
-      out ≡ paste d at (flat_map f (take k xs)) (width * k) → out ≡ paste d at (flat_map f xs) (width * length xs)
-  joined_all d out at k xs all is =
-      is
-      ∙ ap₂ (λ (ys : List X) (n : ℕ). paste d at (flat_map f ys) (width * n)) (take_all k xs (omega arith)) all
 
 -- how far the bytes of an hour reach: up to its buys, its sells, its lines
 pub upto_buys : (m : Market) → 7 + 7 * length m.buys ≡ length (head_bytes m ++ flat_map bid_bytes m.buys)

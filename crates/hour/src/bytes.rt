@@ -8,7 +8,7 @@ pub fn two_bytes(bytes: &[u8], i: usize) -> u64
     requires { i + 1 < length bytes.now }
     ensures { result ≡ two bytes.now i }
 {
-    u64::from(bytes[i]) + 256 * u64::from(bytes[i + 1])
+    u64::from(u16::from_le_bytes([bytes[i], bytes[i + 1]]))
 }
 
 // The number in the three bytes from `i` on, low byte first.
@@ -16,17 +16,14 @@ pub fn three_bytes(bytes: &[u8], i: usize) -> u64
     requires { i + 2 < length bytes.now }
     ensures { result ≡ three bytes.now i }
 {
-    u64::from(bytes[i]) + 256 * u64::from(bytes[i + 1]) + 65536 * u64::from(bytes[i + 2])
+    u64::from(u32::from_le_bytes([bytes[i], bytes[i + 1], bytes[i + 2], 0]))
 }
 
 // The lowest `width` bytes of a number from `at` on, low byte first.
 pub fn put_low(out: &mut [u8], at: usize, width: usize, number: u64)
-    requires { at + width ≤ length out.old }
+    requires few { width ≤ 8 }
+    requires fits { at + width ≤ length out.old }
     ensures { out.new ≡ paste out.old at (low_bytes width number) width }
 {
-    let mut left = number;
-    for i in 0..width {
-        out[at + i] = (left % 256) as u8;
-        left /= 256;
-    }
+    out[at..at + width].copy_from_slice(&number.to_le_bytes()[..width]);
 }
