@@ -1,5 +1,5 @@
 -- An hour that no rule refuses keeps the rules, and the other way round. Assumes nothing.
-use Rattle.std.proofs.Common.{◌≡◌, ℕ, ◌+◌, ◌<◌, false, eqb, List, length, is_some, None, sym, ap, ◌∙◌, pos_of_ne-zero, zero-add, arith}
+use Rattle.std.proofs.Common.{◌≡◌, ℕ, ◌+◌, ◌<◌, false, eqb, List, length, is_some, None, sym, ◌∙◌, pos_of_ne-zero, zero-add, arith}
 use Rattle.std.proofs.lemmas.List.FromFn.{length-map-range_with_len, get_or-map-range_with_len}
 use Rattle.std.proofs.lemmas.Bool.{eqb-false, ne_eqb, ltb-false, le-ltb, leb-false, lt-leb, or_parts, or_from}
 use Rattle.hour.specs.declared.items.Bid.{Bid}
@@ -11,8 +11,8 @@ use Rattle.hour.specs.Rules.{BidKept, LineKept, KeepsRules}
 use Rattle.hour.proofs.First.{is_none, else_none, else_none_left, else_none_right, when_none, when_false, first_none, first_all}
 use Rattle.hour.proofs.Heads.{Sound, sound_head}
 
-pub bid_kept : (z place : ℕ) (b : Bid) → bid_fault z place b ≡ None → BidKept z b
-bid_kept z place b none =
+pub bid_keeps : (z place : ℕ) (b : Bid) → bid_fault z place b ≡ None → BidKept z b
+bid_keeps z place b none =
     let after_zone = else_none_right _ _ none in
     let amount = or_parts (eqb b.amount 0) _ (when_none _ _ (else_none_right _ _ after_zone)) in
     let nonzero = eqb-false b.amount 0 amount.0 in
@@ -23,8 +23,8 @@ bid_kept z place b none =
       amount = ltb-false _ _ amount.1;
     }
 
-pub line_kept : (z place : ℕ) (l : Line) → line_fault z place l ≡ None → LineKept z l
-line_kept z place l none =
+pub line_keeps : (z place : ℕ) (l : Line) → line_fault z place l ≡ None → LineKept z l
+line_keeps z place l none =
     let after_from = else_none_right _ _ none in
     record {
       from = leb-false z l.from (when_none _ _ (else_none_left _ _ none));
@@ -66,30 +66,28 @@ pub lines_count : (bs : List ℕ) → length (market_of bs).lines ≡ two bs 5
 lines_count bs = length-map-range_with_len _ 0 (two bs 5)
 
 -- the k-th of each sort, where it stands in the bytes
-pub buy_said : (bs : List ℕ) (k : ℕ) → k < two bs 1 → bid_at bs (bid_place k) ≡ bid (market_of bs).buys k
-buy_said bs k below =
-    ap (λ (i : ℕ). bid_at bs (bid_place i)) (sym (zero-add k))
-    ∙ sym (get_or-map-range_with_len _ 0 (two bs 1) k k _ below (zero-add k))
+pub buy_stands : (bs : List ℕ) (k : ℕ) → k < two bs 1 → bid_at bs (bid_place (0 + k)) ≡ bid (market_of bs).buys k
+buy_stands bs k below = sym (get_or-map-range_with_len _ 0 (two bs 1) k k _ below (zero-add k))
 
-pub sell_said :
+pub sell_stands :
     (bs : List ℕ) (k : ℕ) → k < two bs 3 → bid_at bs (bid_place (two bs 1 + k)) ≡ bid (market_of bs).sells k
-sell_said bs k below = sym (get_or-map-range_with_len _ 0 (two bs 3) k k _ below (zero-add k))
+sell_stands bs k below = sym (get_or-map-range_with_len _ 0 (two bs 3) k k _ below (zero-add k))
 
-pub line_said :
+pub line_stands :
     (bs : List ℕ) (k : ℕ) → k < two bs 5 →
     line_at bs (line_place (two bs 1 + two bs 3) k) ≡ line (market_of bs).lines k
-line_said bs k below = sym (get_or-map-range_with_len _ 0 (two bs 5) k k _ below (zero-add k))
+line_stands bs k below = sym (get_or-map-range_with_len _ 0 (two bs 5) k k _ below (zero-add k))
 
 -- no bid and no line of a list with no fault breaks a rule
 pub bids_kept :
     (z before : ℕ) (bs : List Bid) → bids_fault z before bs ≡ None →
     (k : ℕ) → k < length bs → BidKept z (bid bs k)
-bids_kept z before bs none k below = bid_kept z _ (bid bs k) (first_none _ (length bs) none k below)
+bids_kept z before bs none k below = bid_keeps z _ (bid bs k) (first_none _ (length bs) none k below)
 
 pub lines_kept :
     (z bids : ℕ) (ls : List Line) → all_lines_fault z bids ls ≡ None →
     (k : ℕ) → k < length ls → LineKept z (line ls k)
-lines_kept z bids ls none k below = line_kept z _ (line ls k) (first_none _ (length ls) none k below)
+lines_kept z bids ls none k below = line_keeps z _ (line ls k) (first_none _ (length ls) none k below)
 
 pub kept : (bs : List ℕ) → refusal_of bs ≡ None → KeepsRules (market_of bs)
 kept bs none =
@@ -108,16 +106,16 @@ kept bs none =
       each_line = lines_kept m.zones (length m.buys + length m.sells) m.lines (else_none_right _ _ after_buys);
     }
 
--- the k-th of each sort keeps its rules where it stands
+-- the k-th of each sort keeps its rules
 module _ (bs : List ℕ) (free : is_some (refusal_of bs) ≡ false) (k : ℕ) where
   rules : KeepsRules (market_of bs)
   rules = kept bs (is_none (refusal_of bs) free)
 
-  pub buy_kept : k < two bs 1 → BidKept (byte bs 0) (bid_at bs (bid_place k))
-  buy_kept below = rw (buy_said bs k below) (rules.each_buy k (omega (arith, buys_count bs)))
+  pub buy_kept : k < two bs 1 → BidKept (byte bs 0) (bid (market_of bs).buys k)
+  buy_kept below = rules.each_buy k (omega (arith, buys_count bs))
 
-  pub sell_kept : k < two bs 3 → BidKept (byte bs 0) (bid_at bs (bid_place (two bs 1 + k)))
-  sell_kept below = rw (sell_said bs k below) (rules.each_sell k (omega (arith, sells_count bs)))
+  pub sell_kept : k < two bs 3 → BidKept (byte bs 0) (bid (market_of bs).sells k)
+  sell_kept below = rules.each_sell k (omega (arith, sells_count bs))
 
-  pub line_stands_kept : k < two bs 5 → LineKept (byte bs 0) (line_at bs (line_place (two bs 1 + two bs 3) k))
-  line_stands_kept below = rw (line_said bs k below) (rules.each_line k (omega (arith, lines_count bs)))
+  pub line_kept : k < two bs 5 → LineKept (byte bs 0) (line (market_of bs).lines k)
+  line_kept below = rules.each_line k (omega (arith, lines_count bs))

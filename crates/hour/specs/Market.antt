@@ -1,6 +1,7 @@
 -- A market of zones joined by lines, in whole units and whole cents. Assumes nothing: these are definitions.
 --
 --   Market           the zones (numbered from 0), the bids to buy, the bids to sell, the lines
+--   count_of m s     how many buys, sells or lines it has
 --   Outcome          an amount for every bid and a flow for every line; a number that a list lacks is 0
 --   Proper m         every zone that is named is a zone
 --   Feasible m o     o can be carried out: limits kept, every zone in balance
@@ -12,12 +13,20 @@ use Rattle.std.specs.Prelude.{◌≡◌, ℕ, ◌+◌, ◌*◌, ◌<◌, ◌≤�
 use Rattle.hour.specs.Total.{total, tagged}
 use Rattle.hour.specs.declared.items.Bid.{Bid}
 use Rattle.hour.specs.declared.items.Line.{Line}
+use Rattle.hour.specs.declared.refusals.Sort.{Sort}
+use Rattle.hour.specs.declared.refusals.Sort.TheVariants as sorts
 
 pub record Market : Type 0 where
   pub zones : ℕ
   pub buys : List Bid
   pub sells : List Bid
   pub lines : List Line
+
+-- how many entries of a sort it has
+abbrev pub count_of : Market → Sort → ℕ
+count_of m sorts.Buy = length m.buys
+count_of m sorts.Sell = length m.sells
+count_of m sorts.Line = length m.lines
 
 pub record Outcome : Type 0 where
   pub bought : List ℕ

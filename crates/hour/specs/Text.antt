@@ -6,13 +6,15 @@
 --   rows n f         f 0, f 1, .., f (n - 1) one after the other
 --   Adds r s bs t    a write that answered r made the text t of s by putting bs behind it
 --   listing_of bs    a row for the refusal of the bytes; or one for the zones and one for each buy, sell and line
-use Rattle.std.specs.Prelude.{◌≡◌, ℕ, zero, suc, ◌-◌, ◌/◌, ◌%◌, cond, List, [], ◌∷◌, ◌++◌, length, Some, None, string_bytes, codes, decimal, Result, String, OnOk, nat_lt}
+use Rattle.std.specs.Prelude.{◌≡◌, ℕ, zero, suc, ◌-◌, ◌/◌, ◌%◌, cond, List, [], ◌∷◌, ◌++◌, Some, None, string_bytes, codes, decimal, Result, String, OnOk, nat_lt}
 use Rattle.hour.specs.Bytes.{market_of, refusal_of}
-use Rattle.hour.specs.Market.{Market, bid, line}
+use Rattle.hour.specs.Market.{Market, bid, line, count_of}
 use Rattle.hour.specs.Refusals.{number_of, place_of}
 use Rattle.hour.specs.declared.items.Bid.{Bid}
 use Rattle.hour.specs.declared.items.Line.{Line}
 use Rattle.hour.specs.declared.refusals.Refusal.{Refusal}
+use Rattle.hour.specs.declared.refusals.Sort.{Sort}
+use Rattle.hour.specs.declared.refusals.Sort.TheVariants as sorts
 
 -- where a write to a text went well, bs stands behind what the text had before
 abbrev pub Adds : {X E Z : Type 0} → Result X E → String Z → List ℕ → String Z → Type 0
@@ -47,18 +49,23 @@ refused r = words (codes "refused" ∷ decimal (number_of r) ∷ codes "at" ∷ 
 abbrev pub zones_row : ℕ → List ℕ
 zones_row z = row (codes "zones" ∷ decimal z ∷ [])
 
--- the k-th bid of a list, which `word` calls buy or sell
-abbrev pub bid_row : List ℕ → ℕ → Bid → List ℕ
-bid_row word k b =
+abbrev pub sort_word : Sort → List ℕ
+sort_word sorts.Buy = codes "buy"
+sort_word sorts.Sell = codes "sell"
+sort_word sorts.Line = codes "line"
+
+-- the k-th bid of its sort
+abbrev pub bid_row : Sort → ℕ → Bid → List ℕ
+bid_row sort k b =
     row (
-    word ∷ decimal k ∷ codes "zone" ∷ decimal b.zone
+    sort_word sort ∷ decimal k ∷ codes "zone" ∷ decimal b.zone
     ∷ codes "price" ∷ money b.price ∷ codes "amount" ∷ decimal b.amount ∷ []
     )
 
 abbrev pub line_row : ℕ → Line → List ℕ
 line_row k l =
     row (
-    codes "line" ∷ decimal k ∷ codes "from" ∷ decimal l.from
+    sort_word sorts.Line ∷ decimal k ∷ codes "from" ∷ decimal l.from
     ∷ codes "to" ∷ decimal l.to ∷ codes "capacity" ∷ decimal l.capacity ∷ []
     )
 
@@ -66,28 +73,17 @@ abbrev pub rows : ℕ → (ℕ → List ℕ) → List ℕ
 rows zero f = []
 rows (suc n) f = rows n f ++ f n
 
--- the rows of the k-th buy, sell and line of a market
-abbrev pub nth_buy : Market → ℕ → List ℕ
-nth_buy m k = bid_row (codes "buy") k (bid m.buys k)
+-- the row of the k-th of a sort, those of all of the sort, and of all sorts
+abbrev pub nth_row : Market → Sort → ℕ → List ℕ
+nth_row m sorts.Buy k = bid_row sorts.Buy k (bid m.buys k)
+nth_row m sorts.Sell k = bid_row sorts.Sell k (bid m.sells k)
+nth_row m sorts.Line k = line_row k (line m.lines k)
 
-abbrev pub nth_sell : Market → ℕ → List ℕ
-nth_sell m k = bid_row (codes "sell") k (bid m.sells k)
-
-abbrev pub nth_line : Market → ℕ → List ℕ
-nth_line m k = line_row k (line m.lines k)
-
--- and of them all
-abbrev pub buy_rows : Market → List ℕ
-buy_rows m = rows (length m.buys) (nth_buy m)
-
-abbrev pub sell_rows : Market → List ℕ
-sell_rows m = rows (length m.sells) (nth_sell m)
-
-abbrev pub line_rows : Market → List ℕ
-line_rows m = rows (length m.lines) (nth_line m)
+abbrev pub sort_rows : Market → Sort → List ℕ
+sort_rows m sort = rows (count_of m sort) (nth_row m sort)
 
 abbrev pub market_rows : Market → List ℕ
-market_rows m = zones_row m.zones ++ buy_rows m ++ sell_rows m ++ line_rows m
+market_rows m = zones_row m.zones ++ sort_rows m sorts.Buy ++ sort_rows m sorts.Sell ++ sort_rows m sorts.Line
 
 abbrev pub listing_of : List ℕ → List ℕ
 listing_of bs = elim (refusal_of bs) [ Some r ↦ row (refused r ∷ []) | None ↦ market_rows (market_of bs) ]

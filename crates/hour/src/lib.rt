@@ -4,7 +4,6 @@
 mod books;
 mod bytes;
 mod entries;
-mod facts;
 mod input;
 mod items;
 mod money;

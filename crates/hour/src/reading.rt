@@ -7,7 +7,6 @@ ghost use Rattle.hour.specs.Bytes.{two, head_read, market_of, refusal_of};
 
 use crate::bytes::two_bytes;
 use crate::entries::Entry;
-use crate::facts::items_stand;
 use crate::items::{Bid, Line};
 use crate::refusals::{Refusal, Sort};
 use crate::rules::{check_count, check_zones};
@@ -73,7 +72,6 @@ pub fn check_items(bytes: &[u8], head: Head) -> Result<(), Refusal>
     requires { head_read bytes.now ≡ Ok head }
     ensures { result_err result ≡ item_fault (market_of bytes.now) }
 {
-    items_stand(bytes, head);
     let buys = head.buys as usize;
     let sells = head.sells as usize;
     let lines = head.lines as usize;

@@ -1,7 +1,7 @@
 // Why an hour is refused: each case holds what it refuses, and where that stands.
 ghost use Rattle.std.specs.Prelude.{◌≡◌, Some};
 ghost use Rattle.hour.specs.Refusals.{count_place, number_of, place_of};
-ghost use Rattle.hour.specs.Text.{refused};
+ghost use Rattle.hour.specs.Text.{refused, sort_word};
 
 use std::fmt;
 
@@ -22,6 +22,19 @@ impl Sort {
             Sort::Buy => 1,
             Sort::Sell => 3,
             Sort::Line => 5,
+        }
+    }
+}
+
+// A sort's word in a listing.
+impl fmt::Display for Sort {
+    ghost output = { λ sort. Some (sort_word sort) };
+
+    fn fmt<W: fmt::Write>(&self, f: &mut fmt::Formatter<W>) -> fmt::Result {
+        match self {
+            Sort::Buy => write!(f, "buy"),
+            Sort::Sell => write!(f, "sell"),
+            Sort::Line => write!(f, "line"),
         }
     }
 }

@@ -1,17 +1,18 @@
 // An hour as text: a row for the zones, and one for each buy, sell and line; or the row of its refusal.
 ghost use Rattle.std.specs.Prelude.{◌≡◌, ◌<◌, IfOk, string_bytes};
 ghost use Rattle.hour.specs.Bytes.{market_of};
-ghost use Rattle.hour.specs.Text.{Adds, bid_row, nth_buy, nth_sell, nth_line};
-ghost use Rattle.hour.specs.Text.{buy_rows, sell_rows, line_rows, market_rows, listing_of};
+ghost use Rattle.hour.specs.Market.{count_of};
+ghost use Rattle.hour.specs.Text.{Adds, bid_row, line_row, nth_row, sort_rows, market_rows, listing_of};
 
 use crate::items::{Bid, Line};
 use crate::money::Price;
+use crate::refusals::Sort;
 use crate::view::Hour;
 use std::alloc::{AllocError, Global};
 
-// The bid with the number `k` of its list, which `word` calls buy or sell.
-fn bid_row(text: &mut String, word: &str, k: usize, bid: Bid) -> Result<(), AllocError>
-    ensures { Adds result text.old (bid_row word.now k bid) text.new }
+// The k-th bid of its sort.
+fn bid_row(text: &mut String, sort: Sort, k: usize, bid: Bid) -> Result<(), AllocError>
+    ensures { Adds result text.old (bid_row sort k bid) text.new }
 {
     let Bid {
         zone,
@@ -19,54 +20,32 @@ fn bid_row(text: &mut String, word: &str, k: usize, bid: Bid) -> Result<(), Allo
         amount,
     } = bid;
     let price = Price(price);
-    writeln!(text, "{word} {k} zone {zone} price {price} amount {amount}")
+    writeln!(text, "{sort} {k} zone {zone} price {price} amount {amount}")
 }
 
-fn buy_row(text: &mut String, hour: Hour<'_>, k: usize) -> Result<(), AllocError>
-    requires { k < hour.buys }
-    ensures { Adds result text.old (nth_buy (market_of hour.entry.bytes.now) k) text.new }
+fn line_row(text: &mut String, k: usize, line: Line) -> Result<(), AllocError>
+    ensures { Adds result text.old (line_row k line) text.new }
 {
-    bid_row(text, "buy", k, hour.buy(k))
-}
-
-fn sell_row(text: &mut String, hour: Hour<'_>, k: usize) -> Result<(), AllocError>
-    requires { k < hour.sells }
-    ensures { Adds result text.old (nth_sell (market_of hour.entry.bytes.now) k) text.new }
-{
-    bid_row(text, "sell", k, hour.sell(k))
-}
-
-fn line_row(text: &mut String, hour: Hour<'_>, k: usize) -> Result<(), AllocError>
-    requires { k < hour.lines }
-    ensures { Adds result text.old (nth_line (market_of hour.entry.bytes.now) k) text.new }
-{
-    let Line { from, to, capacity } = hour.line(k);
+    let Line { from, to, capacity } = line;
     writeln!(text, "line {k} from {from} to {to} capacity {capacity}")
 }
 
-fn buy_rows(text: &mut String, hour: Hour<'_>) -> Result<(), AllocError>
-    ensures { Adds result text.old (buy_rows (market_of hour.entry.bytes.now)) text.new }
+fn nth_row(text: &mut String, hour: Hour<'_>, sort: Sort, k: usize) -> Result<(), AllocError>
+    requires { k < count_of (market_of hour.bytes.now) sort }
+    ensures { Adds result text.old (nth_row (market_of hour.entry.bytes.now) sort k) text.new }
 {
-    for k in 0..hour.buys() {
-        buy_row(text, hour, k)?;
+    match sort {
+        Sort::Buy => bid_row(text, sort, k, hour.buy(k)),
+        Sort::Sell => bid_row(text, sort, k, hour.sell(k)),
+        Sort::Line => line_row(text, k, hour.line(k)),
     }
-    Ok(())
 }
 
-fn sell_rows(text: &mut String, hour: Hour<'_>) -> Result<(), AllocError>
-    ensures { Adds result text.old (sell_rows (market_of hour.entry.bytes.now)) text.new }
+fn sort_rows(text: &mut String, hour: Hour<'_>, sort: Sort) -> Result<(), AllocError>
+    ensures { Adds result text.old (sort_rows (market_of hour.entry.bytes.now) sort) text.new }
 {
-    for k in 0..hour.sells() {
-        sell_row(text, hour, k)?;
-    }
-    Ok(())
-}
-
-fn line_rows(text: &mut String, hour: Hour<'_>) -> Result<(), AllocError>
-    ensures { Adds result text.old (line_rows (market_of hour.entry.bytes.now)) text.new }
-{
-    for k in 0..hour.lines() {
-        line_row(text, hour, k)?;
+    for k in 0..hour.count(sort) {
+        nth_row(text, hour, sort, k)?;
     }
     Ok(())
 }
@@ -76,9 +55,9 @@ fn market_rows(text: &mut String, hour: Hour<'_>) -> Result<(), AllocError>
 {
     let zones = hour.zones();
     writeln!(text, "zones {zones}")?;
-    buy_rows(text, hour)?;
-    sell_rows(text, hour)?;
-    line_rows(text, hour)
+    sort_rows(text, hour, Sort::Buy)?;
+    sort_rows(text, hour, Sort::Sell)?;
+    sort_rows(text, hour, Sort::Line)
 }
 
 fn write_listing(text: &mut String, bytes: &[u8]) -> Result<(), AllocError>

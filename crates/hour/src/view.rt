@@ -2,15 +2,14 @@
 ghost use Rattle.std.specs.Prelude.{◌≡◌, ◌+◌, ◌<◌, ◌≤◌, false, length, is_some, IfOk};
 ghost use Rattle.std.specs.Result.{result_err};
 ghost use Rattle.hour.specs.Bytes.{byte, two, market_of, refusal_of};
-ghost use Rattle.hour.specs.Market.{bid, line};
+ghost use Rattle.hour.specs.Market.{bid, line, count_of};
 ghost use Rattle.hour.specs.Rules.{line_place, BidKept, LineKept};
 
 use crate::bytes::two_bytes;
 use crate::entries::Entry;
-use crate::facts::{buy_stands, counts_stand, line_stands, sell_stands};
 use crate::items::{Bid, Line};
 use crate::reading::check_bytes;
-use crate::refusals::Refusal;
+use crate::refusals::{Refusal, Sort};
 
 // The bytes of an hour that keeps every rule, with its counts; bids and lines are read where they stand.
 #[derive(Clone, Copy)]
@@ -37,7 +36,6 @@ impl<'a> Hour<'a> {
         requires { is_some (refusal_of bytes.now) ≡ false }
         ensures { result.bytes.now ≡ bytes.now }
     {
-        counts_stand(bytes);
         let zones = u64::from(bytes[0]);
         let buys = two_bytes(bytes, 1) as usize;
         let sells = two_bytes(bytes, 3) as usize;
@@ -78,31 +76,50 @@ impl<'a> Hour<'a> {
         self.lines
     }
 
+    // How many of a sort it has.
+    pub fn count(self, sort: Sort) -> usize
+        ensures { result ≡ count_of (market_of self.entry.bytes.now) sort }
+    {
+        match sort {
+            Sort::Buy => self.buys,
+            Sort::Sell => self.sells,
+            Sort::Line => self.lines,
+        }
+    }
+
+    // The k-th of those that stand behind so many bids.
+    fn nth<E: Entry>(self, bids: usize, k: usize) -> E
+        requires fits { E.place bids k + E.size ≤ length self.bytes.now }
+        ensures { result ≡ E.said self.entry.bytes.now (E.place bids k) }
+    {
+        E::read(self.bytes, E::place(bids, k))
+    }
+
+    #[tactic(auto, using(crate::proofs::Kept::buy_stands, crate::proofs::Kept::buy_kept))]
     pub fn buy(self, k: usize) -> Bid
         requires { k < self.buys }
         ensures value { result ≡ bid (market_of self.entry.bytes.now).buys k }
         ensures kept { BidKept self.entry.zones result }
     {
-        buy_stands(self.bytes, k);
-        Bid::read(self.bytes, Bid::place(0, k))
+        self.nth(0, k)
     }
 
+    #[tactic(auto, using(crate::proofs::Kept::sell_stands, crate::proofs::Kept::sell_kept))]
     pub fn sell(self, k: usize) -> Bid
         requires { k < self.sells }
         ensures value { result ≡ bid (market_of self.entry.bytes.now).sells k }
         ensures kept { BidKept self.entry.zones result }
     {
-        sell_stands(self.bytes, k);
-        Bid::read(self.bytes, Bid::place(self.buys, k))
+        self.nth(self.buys, k)
     }
 
+    #[tactic(auto, using(crate::proofs::Kept::line_stands, crate::proofs::Kept::line_kept))]
     pub fn line(self, k: usize) -> Line
         requires { k < self.lines }
         ensures value { result ≡ line (market_of self.entry.bytes.now).lines k }
         ensures kept { LineKept self.entry.zones result }
     {
-        line_stands(self.bytes, k);
-        Line::read(self.bytes, Line::place(self.buys + self.sells, k))
+        self.nth(self.buys + self.sells, k)
     }
 }
 

@@ -1,8 +1,0 @@
-use Rattle.std.proofs.Common.{◌≡◌, ◌++◌, string_bytes}
-use Rattle.hour.specs.Bytes.{market_of}
-use Rattle.hour.specs.Text.{rows, nth_sell}
-use Rattle.hour.proofs.text.sell_rows.Given as goal
-
-abbrev pub invariant-loop-k : goal.invariant-loop-k
-invariant-loop-k l =
-    string_bytes l.text ≡ string_bytes l.initial.text ++ rows l.k (nth_sell (market_of l.hour.bytes.now))
