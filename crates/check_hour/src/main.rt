@@ -6,18 +6,10 @@ ghost use Rattle.check_hour.specs.Verdict.{verdict_on};
 ghost use Rattle.hour.specs.Bytes.{refusal_of};
 ghost use Rattle.hour.specs.Text.{row};
 
-use hour::{Fault, Refusal, arguments, read_file, refusal, status, tell, write_answer};
+use hour::{Fault, Refusal, arguments, read_file, refusal, status, tell, two_named, write_answer};
 use std::alloc::{AllocError, Global};
 use std::fmt;
 use std::process::ExitCode;
-
-fn named_files(rt: &HostRuntime) -> Result<(String, String), Fault> {
-    let mut args = arguments(rt)?;
-    let (Some(hour), Some(result), None) = (args.next(), args.next(), args.next()) else {
-        return Err(Fault::Call);
-    };
-    Ok((hour, result))
-}
 
 // What is said of an hour, by its first refusal.
 #[derive(Clone, Copy)]
@@ -42,7 +34,7 @@ fn answer(heap: Global, bytes: &[u8]) -> Result<String, AllocError>
 }
 
 fn run(rt: &HostRuntime) -> Result<(), Fault> {
-    let (hour, result) = named_files(rt)?;
+    let (hour, result) = two_named(arguments(rt)?)?;
     let bytes = read_file(rt, hour)?;
     let _result = read_file(rt, result)?;
     let text = answer(rt.alloc(), bytes.as_slice())?;

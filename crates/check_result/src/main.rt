@@ -7,17 +7,9 @@ ghost use Rattle.checker.specs.Reports.{report_shown};
 ghost use Rattle.hour.specs.Text.{row};
 
 use checker::{Report, report_on};
-use hour::{Fault, arguments, read_file, status, tell, write_answer};
+use hour::{Fault, arguments, read_file, status, tell, two_named, write_answer};
 use std::alloc::{AllocError, Global};
 use std::process::ExitCode;
-
-fn named_files(rt: &HostRuntime) -> Result<(String, String), Fault> {
-    let mut args = arguments(rt)?;
-    let (Some(hour), Some(result), None) = (args.next(), args.next(), args.next()) else {
-        return Err(Fault::Call);
-    };
-    Ok((hour, result))
-}
 
 fn answer(heap: Global, report: Report) -> Result<String, AllocError>
     ensures { IfOk result (λ t. string_bytes t ≡ row (report_shown report ∷ [])) }
@@ -27,7 +19,7 @@ fn answer(heap: Global, report: Report) -> Result<String, AllocError>
 
 // Whether the result stands, once that is said.
 fn run(rt: &HostRuntime) -> Result<bool, Fault> {
-    let (hour, result) = named_files(rt)?;
+    let (hour, result) = two_named(arguments(rt)?)?;
     let bytes = read_file(rt, hour)?;
     let text = read_file(rt, result)?;
     let report = report_on(rt.alloc(), bytes.as_slice(), text.as_slice())?;

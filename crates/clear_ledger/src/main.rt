@@ -1,21 +1,14 @@
 // clear_ledger [HOUR]: reads an hour, from standard input where none is named, and clears it or says why it is refused.
 #![tactic(auto)]
 
-use hour::{Fault, arguments, read_file, read_standard_input, status, tell, write_answer};
+use hour::{
+    Fault, arguments, one_named, read_file, read_standard_input, status, tell, write_answer,
+};
 use ledger::published;
 use std::process::ExitCode;
 
-fn named_file(rt: &HostRuntime) -> Result<Option<String>, Fault> {
-    let mut args = arguments(rt)?;
-    let name = args.next();
-    if args.next().is_some() {
-        return Err(Fault::Call);
-    }
-    Ok(name)
-}
-
 fn run(rt: &HostRuntime) -> Result<(), Fault> {
-    let bytes = match named_file(rt)? {
+    let bytes = match one_named(arguments(rt)?)? {
         Some(name) => read_file(rt, name)?,
         None => read_standard_input(rt)?,
     };

@@ -1,7 +1,8 @@
 // A program's call, its files and standard input, read whole, and its answer; and what can go wrong with them.
 ghost use Rattle.std.specs.Prelude.{◌≡◌, cond, is_ok};
 ghost use Rattle.std.specs.Process.{exit_status};
-ghost use Rattle.hour.specs.Faults.{fault_shown};
+ghost use Rattle.std.specs.Vec.Iter.{into_iter_items};
+ghost use Rattle.hour.specs.Faults.{fault_shown, one_named, two_named};
 ghost use Rattle.hour.specs.declared.input.Fault.TheVariants.{Memory};
 
 use std::alloc::AllocError;
@@ -52,36 +53,47 @@ impl From<AllocError> for Fault {
 
 // What the call names behind the program itself.
 pub fn arguments(rt: &HostRuntime) -> Result<Args, Fault> {
-    match env::args(rt) {
-        Ok(mut args) => {
-            let _program = args.next();
-            Ok(args)
-        }
-        Err(error) => Err(Fault::Arguments { error }),
+    let mut args = env::args(rt).map_err(|error| Fault::Arguments { error })?;
+    let _program = args.next();
+    Ok(args)
+}
+
+// The one file that a call names, or none.
+pub fn one_named(mut names: Args) -> Result<Option<String>, Fault>
+    ensures { result ≡ one_named (into_iter_items names) }
+{
+    match (names.next(), names.next()) {
+        (name, None) => Ok(name),
+        _ => Err(Fault::Call),
+    }
+}
+
+// The two files that a call names.
+pub fn two_named(mut names: Args) -> Result<(String, String), Fault>
+    ensures { result ≡ two_named (into_iter_items names) }
+{
+    match (names.next(), names.next(), names.next()) {
+        (Some(name), Some(other), None) => Ok((name, other)),
+        _ => Err(Fault::Call),
     }
 }
 
 pub fn read_file(rt: &HostRuntime, name: String) -> Result<Vec<u8>, Fault> {
-    match fs::read(rt, name.as_str()) {
-        Ok(bytes) => Ok(bytes),
-        Err(error) => Err(Fault::File { name, error }),
-    }
+    fs::read(rt, name.as_str()).map_err(|error| Fault::File { name, error })
 }
 
 pub fn read_standard_input(rt: &HostRuntime) -> Result<Vec<u8>, Fault> {
     let mut bytes = Vec::new(rt.alloc());
-    match rt.stdin().read_to_end(&mut bytes) {
-        Ok(_) => Ok(bytes),
-        Err(error) => Err(Fault::StandardInput { error }),
-    }
+    rt.stdin()
+        .read_to_end(&mut bytes)
+        .map_err(|error| Fault::StandardInput { error })?;
+    Ok(bytes)
 }
 
 // Writes an answer in one piece, so that it stands whole or not at all.
 pub fn write_answer(rt: &HostRuntime, text: &str) -> Result<(), Fault> {
-    match rt.write_all(text.as_bytes()) {
-        Ok(()) => Ok(()),
-        Err(error) => Err(Fault::StandardOutput { error }),
-    }
+    rt.write_all(text.as_bytes())
+        .map_err(|error| Fault::StandardOutput { error })
 }
 
 // The fault stands on standard error: `main` only has to end with status 1.

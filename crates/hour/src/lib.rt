@@ -18,7 +18,8 @@ mod writing;
 pub use books::Book;
 pub use entries::Entry;
 pub use input::{
-    Fault, Told, arguments, read_file, read_standard_input, status, tell, write_answer,
+    Fault, Told, arguments, one_named, read_file, read_standard_input, status, tell, two_named,
+    write_answer,
 };
 pub use items::{Bid, Line};
 pub use money::{Hundredths, Price, ZERO_PRICE};
