@@ -83,6 +83,7 @@ impl Entry for Bid {
         }
     }
 
+    #[tactic(auto, using(crate::proofs::Pasted::paste_bid))]
     fn put(self, out: &mut [u8], at: usize) {
         put_low(out, at, 1, self.zone);
         put_low(out, at + 1, 3, self.price);
@@ -123,6 +124,7 @@ impl Entry for Line {
         }
     }
 
+    #[tactic(auto, using(crate::proofs::Pasted::paste_line))]
     fn put(self, out: &mut [u8], at: usize) {
         put_low(out, at, 1, self.from);
         put_low(out, at + 1, 1, self.to);

@@ -41,6 +41,7 @@ fn nth_row(text: &mut String, hour: Hour<'_>, sort: Sort, k: usize) -> Result<()
     }
 }
 
+#[tactic(auto, using(crate::proofs::Rows::row_added))]
 fn sort_rows(text: &mut String, hour: Hour<'_>, sort: Sort) -> Result<(), AllocError>
     ensures { Adds result text.old (sort_rows (market_of hour.entry.bytes.now) sort) text.new }
 {
