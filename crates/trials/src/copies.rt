@@ -1,37 +1,24 @@
 // Hours read into lists, and written again from these.
-use hour::{Bid, Book, Hour, Line, refusal, write};
+use hour::{Bid, Book, Hour, Line, write};
 use std::alloc::{AllocError, Global};
 
 fn buys_of(heap: Global, hour: Hour<'_>) -> Result<Vec<Bid>, AllocError> {
-    let mut bids = Vec::new(heap);
-    for k in 0..hour.buys() {
-        bids.push(hour.buy(k))?;
-    }
-    Ok(bids)
+    (0..hour.buys()).map(|k| hour.buy(k)).collect(heap)
 }
 
 fn sells_of(heap: Global, hour: Hour<'_>) -> Result<Vec<Bid>, AllocError> {
-    let mut bids = Vec::new(heap);
-    for k in 0..hour.sells() {
-        bids.push(hour.sell(k))?;
-    }
-    Ok(bids)
+    (0..hour.sells()).map(|k| hour.sell(k)).collect(heap)
 }
 
 fn lines_of(heap: Global, hour: Hour<'_>) -> Result<Vec<Line>, AllocError> {
-    let mut lines = Vec::new(heap);
-    for k in 0..hour.lines() {
-        lines.push(hour.line(k))?;
-    }
-    Ok(lines)
+    (0..hour.lines()).map(|k| hour.line(k)).collect(heap)
 }
 
 // Whether the bytes are those of an hour that is written as the same bytes.
 pub fn written_back(heap: Global, bytes: &[u8]) -> Result<bool, AllocError> {
-    if refusal(bytes).is_some() {
+    let Ok(hour) = Hour::try_from(bytes) else {
         return Ok(false);
-    }
-    let hour = Hour::of(bytes);
+    };
     let buys = buys_of(heap, hour)?;
     let sells = sells_of(heap, hour)?;
     let lines = lines_of(heap, hour)?;

@@ -7,7 +7,7 @@ mod limits;
 
 use crate::copies::written_back;
 use crate::limits::{Counts, hour_of};
-use hour::{Fault, Hour, listing, read_file, refusal, status, tell, write_answer};
+use hour::{Fault, Hour, listing, read_file, status, tell, write_answer};
 use prices::published_text;
 use std::alloc::{AllocError, Global};
 use std::process::ExitCode;
@@ -111,15 +111,16 @@ fn odd_hours(rt: &HostRuntime) -> Result<(), Fault> {
 }
 
 fn counts_read(heap: Global, bytes: &[u8]) -> Result<String, AllocError> {
-    if let Some(refusal) = refusal(bytes) {
-        return format!(in heap; "{refusal}\n");
+    match Hour::try_from(bytes) {
+        Ok(hour) => {
+            let zones = hour.zones();
+            let buys = hour.buys();
+            let sells = hour.sells();
+            let lines = hour.lines();
+            format!(in heap; "zones {zones} buys {buys} sells {sells} lines {lines}\n")
+        }
+        Err(refusal) => format!(in heap; "{refusal}\n"),
     }
-    let hour = Hour::of(bytes);
-    let zones = hour.zones();
-    let buys = hour.buys();
-    let sells = hour.sells();
-    let lines = hour.lines();
-    format!(in heap; "zones {zones} buys {buys} sells {sells} lines {lines}\n")
 }
 
 fn hours_at_limits(rt: &HostRuntime) -> Result<(), Fault> {
