@@ -7,5 +7,6 @@ pub mod Rules
 pub mod Bytes
 pub mod Books
 pub mod Promises
+pub mod Seen
 pub mod Text
 pub mod Faults

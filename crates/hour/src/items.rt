@@ -2,7 +2,7 @@
 
 // A bid: where, at what price at most (to buy) or at least (to sell), and how much at most.
 // A price p stands for p - 50,000 hundredths of the money unit; all comparisons are made with p.
-#[derive(Clone, Copy)]
+#[derive(Clone, Copy, Debug, PartialEq, Eq)]
 pub struct Bid {
     pub zone: u64,
     pub price: u64,
@@ -10,7 +10,7 @@ pub struct Bid {
 }
 
 // A line carries one way, from one zone to another or the same one; a cable that carries both ways is two lines.
-#[derive(Clone, Copy)]
+#[derive(Clone, Copy, Debug, PartialEq, Eq)]
 pub struct Line {
     pub from: u64,
     pub to: u64,

@@ -8,11 +8,11 @@ use std::fmt;
 pub const ZERO_PRICE: u64 = 50_000;
 
 // A price as bids have it: hundredths of the money unit, counted from `ZERO_PRICE`.
-#[derive(Clone, Copy)]
+#[derive(Clone, Copy, Debug, PartialEq, Eq)]
 pub struct Price(pub u64);
 
 // So many hundredths, with their two digits even where they are 0.
-#[derive(Clone, Copy)]
+#[derive(Clone, Copy, Debug, PartialEq, Eq)]
 pub struct Hundredths(pub u64);
 
 impl fmt::Display for Hundredths {

@@ -12,7 +12,7 @@ use crate::refusals::{Refusal, Sort};
 use crate::rules::{check_count, check_zones};
 
 // The counts of an hour, as its first seven bytes say.
-#[derive(Clone, Copy)]
+#[derive(Clone, Copy, Debug, PartialEq, Eq)]
 pub struct Head {
     pub zones: u64,
     pub buys: u64,

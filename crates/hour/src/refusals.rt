@@ -6,7 +6,7 @@ ghost use Rattle.hour.specs.Text.{refused, sort_word};
 use std::fmt;
 
 // The three sorts of an hour's entries.
-#[derive(Clone, Copy, PartialEq, Eq)]
+#[derive(Clone, Copy, Debug, PartialEq, Eq)]
 pub enum Sort {
     Buy,
     Sell,
@@ -39,7 +39,7 @@ impl fmt::Display for Sort {
     }
 }
 
-#[derive(Clone, Copy, PartialEq, Eq)]
+#[derive(Clone, Copy, Debug, PartialEq, Eq)]
 pub enum Refusal {
     // Fewer bytes than the counts say, or more.
     Length { came: usize },

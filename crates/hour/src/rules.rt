@@ -70,7 +70,7 @@ pub fn check_lent(slice: usize, has: usize, needed: usize) -> Result<(), Refusal
 }
 
 // How long slices are that hold a result: amounts bought and sold, flows and prices.
-#[derive(Clone, Copy)]
+#[derive(Clone, Copy, Debug, PartialEq, Eq)]
 pub struct Lengths {
     pub bought: usize,
     pub sold: usize,

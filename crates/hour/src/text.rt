@@ -1,7 +1,7 @@
 // An hour as text: a row for the zones, and one for each buy, sell and line; or the row of its refusal.
 ghost use Rattle.std.specs.Prelude.{◌≡◌, ◌<◌, IfOk, string_bytes};
-ghost use Rattle.hour.specs.Bytes.{market_of};
 ghost use Rattle.hour.specs.Market.{count_of};
+ghost use Rattle.hour.specs.Seen.{market_seen};
 ghost use Rattle.hour.specs.Text.{Adds, bid_row, line_row, nth_row, sort_rows, market_rows, listing_of};
 
 use crate::items::{Bid, Line};
@@ -31,8 +31,8 @@ fn line_row(text: &mut String, k: usize, line: Line) -> Result<(), AllocError>
 }
 
 fn nth_row(text: &mut String, hour: Hour<'_>, sort: Sort, k: usize) -> Result<(), AllocError>
-    requires { k < count_of (market_of hour.bytes.now) sort }
-    ensures { Adds result text.old (nth_row (market_of hour.entry.bytes.now) sort k) text.new }
+    requires { k < count_of (market_seen hour) sort }
+    ensures { Adds result text.old (nth_row (market_seen hour.entry) sort k) text.new }
 {
     match sort {
         Sort::Buy => bid_row(text, sort, k, hour.buy(k)),
@@ -43,7 +43,7 @@ fn nth_row(text: &mut String, hour: Hour<'_>, sort: Sort, k: usize) -> Result<()
 
 #[tactic(auto, using(crate::proofs::Rows::row_added))]
 fn sort_rows(text: &mut String, hour: Hour<'_>, sort: Sort) -> Result<(), AllocError>
-    ensures { Adds result text.old (sort_rows (market_of hour.entry.bytes.now) sort) text.new }
+    ensures { Adds result text.old (sort_rows (market_seen hour.entry) sort) text.new }
 {
     for k in 0..hour.count(sort) {
         nth_row(text, hour, sort, k)?;
@@ -52,7 +52,7 @@ fn sort_rows(text: &mut String, hour: Hour<'_>, sort: Sort) -> Result<(), AllocE
 }
 
 fn market_rows(text: &mut String, hour: Hour<'_>) -> Result<(), AllocError>
-    ensures { Adds result text.old (market_rows (market_of hour.entry.bytes.now)) text.new }
+    ensures { Adds result text.old (market_rows (market_seen hour.entry)) text.new }
 {
     let zones = hour.zones();
     writeln!(text, "zones {zones}")?;

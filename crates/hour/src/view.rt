@@ -31,6 +31,8 @@ pub struct Hour<'a> {
 }
 
 impl<'a> Hour<'a> {
+    ghost use Rattle.hour.specs.Seen.{market_seen};
+
     // The hour that the bytes say, of bytes that are not refused.
     pub fn of(bytes: &'a [u8]) -> Hour<'a>
         requires { is_some (refusal_of bytes.now) ≡ false }
@@ -50,35 +52,35 @@ impl<'a> Hour<'a> {
     }
 
     pub fn zones(self) -> u64
-        ensures { result ≡ (market_of self.entry.bytes.now).zones }
+        ensures { result ≡ (market_seen self.entry).zones }
     {
         self.zones
     }
 
     pub fn buys(self) -> usize
         ensures value { result ≡ self.entry.buys }
-        ensures count { result ≡ length (market_of self.entry.bytes.now).buys }
+        ensures count { result ≡ length (market_seen self.entry).buys }
     {
         self.buys
     }
 
     pub fn sells(self) -> usize
         ensures value { result ≡ self.entry.sells }
-        ensures count { result ≡ length (market_of self.entry.bytes.now).sells }
+        ensures count { result ≡ length (market_seen self.entry).sells }
     {
         self.sells
     }
 
     pub fn lines(self) -> usize
         ensures value { result ≡ self.entry.lines }
-        ensures count { result ≡ length (market_of self.entry.bytes.now).lines }
+        ensures count { result ≡ length (market_seen self.entry).lines }
     {
         self.lines
     }
 
     // How many of a sort it has.
     pub fn count(self, sort: Sort) -> usize
-        ensures { result ≡ count_of (market_of self.entry.bytes.now) sort }
+        ensures { result ≡ count_of (market_seen self.entry) sort }
     {
         match sort {
             Sort::Buy => self.buys,
@@ -98,7 +100,7 @@ impl<'a> Hour<'a> {
     #[tactic(auto, using(crate::proofs::Kept::buy_stands, crate::proofs::Kept::buy_kept))]
     pub fn buy(self, k: usize) -> Bid
         requires { k < self.buys }
-        ensures value { result ≡ bid (market_of self.entry.bytes.now).buys k }
+        ensures value { result ≡ bid (market_seen self.entry).buys k }
         ensures kept { BidKept self.entry.zones result }
     {
         self.nth(0, k)
@@ -107,7 +109,7 @@ impl<'a> Hour<'a> {
     #[tactic(auto, using(crate::proofs::Kept::sell_stands, crate::proofs::Kept::sell_kept))]
     pub fn sell(self, k: usize) -> Bid
         requires { k < self.sells }
-        ensures value { result ≡ bid (market_of self.entry.bytes.now).sells k }
+        ensures value { result ≡ bid (market_seen self.entry).sells k }
         ensures kept { BidKept self.entry.zones result }
     {
         self.nth(self.buys, k)
@@ -116,7 +118,7 @@ impl<'a> Hour<'a> {
     #[tactic(auto, using(crate::proofs::Kept::line_stands, crate::proofs::Kept::line_kept))]
     pub fn line(self, k: usize) -> Line
         requires { k < self.lines }
-        ensures value { result ≡ line (market_of self.entry.bytes.now).lines k }
+        ensures value { result ≡ line (market_seen self.entry).lines k }
         ensures kept { LineKept self.entry.zones result }
     {
         self.nth(self.buys + self.sells, k)
