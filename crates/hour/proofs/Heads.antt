@@ -1,13 +1,12 @@
 -- What a head that is not refused says of the length and the counts, and that the items are those of the market.
 -- Assumes nothing.
-use Rattle.std.proofs.Common.{◌≡◌, ℕ, ◌+◌, ◌<◌, ◌≤◌, Bool, true, false, cond, not, eqb, leb, List, length, Some, None, Ok, Err, Option, Result, sym, refl, ap, ◌∙◌, ap₂, zero-add, arith}
+use Rattle.std.proofs.Common.{◌≡◌, ℕ, ◌+◌, ◌<◌, ◌≤◌, Bool, true, false, cond, not, eqb, leb, List, length, get_or, Some, None, Ok, Err, Option, Result, sym, refl, ap, ◌∙◌, ap₂, zero-add, arith}
 use Rattle.std.proofs.lemmas.List.FromFn.{length-map-range_with_len, get_or-map-range_with_len}
 use Rattle.std.proofs.lemmas.Bool.{eqb-true, eqb-false, ltb-false, not-false, cond-true, le-leb, le-ltb, ne_eqb, eq-eqb, or_parts, or_from, not_from_true}
-use Rattle.hour.specs.declared.items.Bid.{Bid}
-use Rattle.hour.specs.declared.items.Line.{Line}
 use Rattle.hour.specs.declared.reading.Head.{Head}
 use Rattle.hour.specs.declared.refusals.Refusal.{Refusal}
-use Rattle.hour.specs.First.{◌else◌}
+use Rattle.hour.specs.First.{◌else◌, first}
+use Rattle.hour.specs.Listed.{listed}
 use Rattle.hour.specs.Market.{no_bid, no_line}
 use Rattle.hour.specs.Rules.{item_fault, max_zones, max_bids, max_lines, bids_fault, all_lines_fault, bid_fault}
 use Rattle.hour.specs.Rules.{line_fault, bid_place, line_place, zones_fault, count_fault}
@@ -87,23 +86,16 @@ head_read_err bs e err = go (head_fault bs) err
     go None err = let z : ◌≡◌ {A = ℕ} 0 1 = cc in absurd (omega arith)
     go (Some refusal) err = cc
 
-pub bids_fault_said :
-    (z : ℕ) (bs : List ℕ) (before count : ℕ) →
-    bids_fault z before (bids_said bs before count) ≡ bids_read z bs before count
-bids_fault_said z bs before count =
-    let said : ℕ → Bid = λ k. bid_at bs (bid_place (before + k)) in
-    rw (length-map-range_with_len said 0 count)
-    (first_same _ _ count
-    (λ k below. ap (bid_fault z (bid_place (before + k))) (get_or-map-range_with_len said 0 count k k no_bid below (zero-add k))))
-
-pub lines_fault_said :
-    (z : ℕ) (bs : List ℕ) (bids count : ℕ) →
-    all_lines_fault z bids (lines_said bs bids count) ≡ lines_read z bs bids count
-lines_fault_said z bs bids count =
-    let said : ℕ → Line = λ k. line_at bs (line_place bids k) in
-    rw (length-map-range_with_len said 0 count)
-    (first_same _ _ count
-    (λ k below. ap (line_fault z (line_place bids k)) (get_or-map-range_with_len said 0 count k k no_line below (zero-add k))))
+-- the first fault of a list that is given by its places is that of what is said at these
+module _ {X : Type 0} (said : ℕ → X) (fault : ℕ → X → Option Refusal) (absent : X) where
+  faults_said :
+      (count : ℕ) →
+      first count (λ k. fault k (said k))
+      ≡ first (length (listed count said)) (λ k. fault k (get_or (listed count said) k absent))
+  faults_said count =
+      rw (length-map-range_with_len said 0 count)
+      (first_same _ _ count
+      (λ k below. ap (fault k) (sym (get_or-map-range_with_len said 0 count k k absent below (zero-add k)))))
 
 -- the items of the market, checked where they stand
 pub items_said :
@@ -117,11 +109,15 @@ items_said bs =
     let m = market_of bs in
     let buys : two bs 1 ≡ length m.buys = sym (length-map-range_with_len _ 0 (two bs 1)) in
     let sells : two bs 3 ≡ length m.sells = sym (length-map-range_with_len _ 0 (two bs 3)) in
-    ap₂ ◌else◌ (sym (bids_fault_said z bs 0 (two bs 1)))
-    (ap₂ ◌else◌
-    (sym (bids_fault_said z bs (two bs 1) (two bs 3)) ∙ ap (λ (n : ℕ). bids_fault z n m.sells) buys)
-    (sym (lines_fault_said z bs (two bs 1 + two bs 3) (two bs 5))
-    ∙ ap₂ (λ (a b : ℕ). all_lines_fault z (a + b) m.lines) buys sells))
+    let bids : (before count : ℕ) → bids_read z bs before count ≡ bids_fault z before (bids_said bs before count) =
+    λ before. faults_said (λ k. bid_at bs (bid_place (before + k))) (λ k. bid_fault z (bid_place (before + k))) no_bid
+    in
+    let lines : (before count : ℕ) → lines_read z bs before count ≡ all_lines_fault z before (lines_said bs before count) =
+    λ before. faults_said (λ k. line_at bs (line_place before k)) (λ k. line_fault z (line_place before k)) no_line
+    in
+    ap₂ ◌else◌ (bids 0 (two bs 1))
+    (ap₂ ◌else◌ (bids (two bs 1) (two bs 3) ∙ ap (λ (n : ℕ). bids_fault z n m.sells) buys)
+    (lines (two bs 1 + two bs 3) (two bs 5) ∙ ap₂ (λ (a b : ℕ). all_lines_fault z (a + b) m.lines) buys sells))
 
 pub items_stand : (bs : List ℕ) (h : Head) → head_read bs ≡ Ok h → items_read bs h ≡ item_fault (market_of bs)
 items_stand bs h ok = ap (items_read bs) (head_read_ok bs h ok).1 ∙ items_said bs

@@ -1,7 +1,9 @@
 -- An hour that keeps the rules, written and read back. Assumes nothing.
-use Rattle.std.proofs.Common.{◌≡◌, ℕ, zero, suc, ◌+◌, ◌*◌, ◌/◌, ◌%◌, ◌<◌, ◌≤◌, List, [], ◌∷◌, ◌++◌, length, get_or, None, sym, refl, ap, ◌∙◌, ap₂, mul-zero, zero-add, mul-suc, arith}
+use Rattle.std.proofs.Common.{◌≡◌, ℕ, ◌+◌, ◌*◌, ◌/◌, ◌%◌, ◌<◌, ◌≤◌, List, [], ◌++◌, length, get_or, take, None, sym, refl, ap, ◌∙◌, ap₂, zero-add, arith}
 use Rattle.std.proofs.lemmas.List.FromFn.{length-map-range_with_len, get_or-map-range_with_len}
-use Rattle.std.proofs.lemmas.List.{append_assoc, append-nil, get_or_append_left, get_or-append-add, same_lists, get_or_default}
+use Rattle.std.proofs.lemmas.List.Concat.{get_or-flat_map}
+use Rattle.std.proofs.lemmas.List.Folds.{length-flat_map-take}
+use Rattle.std.proofs.lemmas.List.{length-take-le, append_assoc, append-nil, get_or_append_left, get_or-append-add, same_lists, get_or_default}
 use Rattle.std.specs.List.{flat_map}
 use Rattle.hour.specs.declared.items.Bid.{Bid}
 use Rattle.hour.specs.declared.items.Line.{Line}
@@ -12,7 +14,7 @@ use Rattle.hour.specs.Listed.{listed}
 use Rattle.hour.specs.Market.{Market, bid, line}
 use Rattle.hour.specs.Promises.{ReadBack}
 use Rattle.hour.specs.Rules.{item_fault, max_zones, bid_place, line_place, BidKept, LineKept, KeepsRules}
-use Rattle.hour.proofs.Pasted.{upto_buys, upto_sells, length_bytes_of}
+use Rattle.hour.proofs.Pasted.{length_joined, upto_buys, upto_sells, length_bytes_of}
 use Rattle.hour.proofs.First.{else_none}
 use Rattle.hour.proofs.Heads.{Sound, head_from_sound}
 use Rattle.hour.proofs.Kept.{items_free}
@@ -20,28 +22,26 @@ use Rattle.hour.proofs.Numbers.{one_from_low, two_from_low, three_from_low}
 
 -- Where a byte of the k-th stands, in a list of which each is written by `f` in `width` bytes.
 module _ {X : Type 0} (f : X → List ℕ) (width : ℕ) (each : (x : X) → width ≡ length (f x)) where
-  pub getD_joined :
+  get_joined :
       (xs : List X) (rest : List ℕ) (k j : ℕ) (x : X) → k < length xs → j < width →
       get_or (flat_map f xs ++ rest) (width * k + j) 0 ≡ get_or (f (get_or xs k x)) j 0
-  getD_joined [] rest k j x below within = absurd (omega arith)
-  getD_joined (y ∷ xs) rest zero j x below within =
-      let here : width * 0 + j ≡ j = omega (arith, mul-zero width) in
-      let inside : j < length (f y) = omega (arith, each y) in
-      rw (append_assoc (f y) (flat_map f xs) rest, here) (get_or_append_left (f y) (flat_map f xs ++ rest) 0 j inside)
-  getD_joined (y ∷ xs) rest (suc k) j x below within =
-      let there : width * suc k + j ≡ length (f y) + (width * k + j) = omega (arith, mul-suc width k, each y) in
-      rw (append_assoc (f y) (flat_map f xs) rest, there)
-      (get_or-append-add (f y) (flat_map f xs ++ rest) (width * k + j) 0
-      ∙ getD_joined xs rest k j x (omega arith) within)
+  get_joined xs rest k j x below within =
+      let front : width * k ≡ length (flat_map f (take k xs)) =
+      ap (λ (n : ℕ). width * n) (sym (length-take-le k xs (omega arith))) ∙ length_joined f width each (take k xs)
+      in
+      let inside : j < length (f (get_or xs k x)) = omega (arith, each (get_or xs k x)) in
+      let here : width * k + j < length (flat_map f xs) = omega (arith, length-flat_map-take f xs k x below) in
+      get_or_append_left (flat_map f xs) rest 0 (width * k + j) here
+      ∙ (ap (λ (n : ℕ). get_or (flat_map f xs) (n + j) 0) front ∙ get_or-flat_map f xs k j x 0 below inside)
 
-  pub getD_behind :
+  get_behind :
       (front : List ℕ) (at : ℕ) (xs : List X) (rest : List ℕ) (k j p : ℕ) (x : X) →
       at ≡ length front → k < length xs → j < width → p ≡ at + width * k →
       get_or (front ++ (flat_map f xs ++ rest)) (p + j) 0 ≡ get_or (f (get_or xs k x)) j 0
-  getD_behind front at xs rest k j p x start below within place =
+  get_behind front at xs rest k j p x start below within place =
       let there : p + j ≡ length front + (width * k + j) = omega arith in
       rw there
-      (get_or-append-add front (flat_map f xs ++ rest) (width * k + j) 0 ∙ getD_joined xs rest k j x below within)
+      (get_or-append-add front (flat_map f xs ++ rest) (width * k + j) 0 ∙ get_joined xs rest k j x below within)
 
 three_from_bytes :
     (bs : List ℕ) (i v : ℕ) → v < 16777216 →
@@ -113,7 +113,7 @@ module _ (whole front rest : List ℕ) (z : ℕ) (few : z ≤ max_zones) where
       bid_from_bytes whole (bid_place (before + k)) z few (bid xs k) (kept k below)
       (λ j within.
       ap (λ (w : List ℕ). get_or w (bid_place (before + k) + j) 0) is
-      ∙ getD_behind bid_bytes 7 (λ x. refl) front (bid_place before) xs rest k j (bid_place (before + k)) _
+      ∙ get_behind bid_bytes 7 (λ x. refl) front (bid_place before) xs rest k j (bid_place (before + k)) _
       start below within (omega arith)))
 
   pub lines_back :
@@ -126,7 +126,7 @@ module _ (whole front rest : List ℕ) (z : ℕ) (few : z ≤ max_zones) where
       line_from_bytes whole (line_place bids k) z few (line xs k) (kept k below)
       (λ j within.
       ap (λ (w : List ℕ). get_or w (line_place bids k + j) 0) is
-      ∙ getD_behind line_bytes 5 (λ x. refl) front (line_place bids 0) xs rest k j (line_place bids k) _
+      ∙ get_behind line_bytes 5 (λ x. refl) front (line_place bids 0) xs rest k j (line_place bids k) _
       start below within (omega arith)))
 
 module _ (m : Market) (kept : KeepsRules m) where

@@ -3,7 +3,7 @@ use Rattle.std.proofs.Common.{◌≡◌, ℕ, zero, suc, ◌+◌, ◌*◌, ◌<�
 use Rattle.std.proofs.lemmas.List.FromFn.{map-range_with_len_more}
 use Rattle.std.proofs.lemmas.List.{length-take-le, length-drop, get_or-take, get_or-drop, flat_map_more, take_all}
 use Rattle.std.specs.List.{flat_map}
-use Rattle.hour.specs.Bytes.{byte, two, three, low_bytes, bid_at, line_at, market_of, refusal_of, head_bytes}
+use Rattle.hour.specs.Bytes.{byte, two, three, low_bytes, bid_at, line_at, bids_said, market_of, refusal_of, head_bytes}
 use Rattle.hour.specs.Bytes.{bid_bytes, line_bytes, bytes_of}
 use Rattle.hour.specs.Listed.{listed}
 use Rattle.hour.specs.Promises.{ByteString, WrittenBack, OnlyHours}
@@ -70,6 +70,15 @@ module _ (bs : List ℕ) (bytes : ByteString bs) where
   parts_meet n m p s t here front back =
       ap₂ ◌++◌ front (back ∙ ap (λ (i : ℕ). take m (drop i bs)) here) ∙ sym (take-add n m bs)
 
+  bids_part :
+      (before count : ℕ) → bid_place (before + count) ≤ length bs →
+      flat_map bid_bytes (bids_said bs before count) ≡ take (7 * count) (drop (bid_place before) bs)
+  bids_part before count within =
+      joined_parts bid_bytes _ 7 (bid_place before) count
+      (λ k below.
+      bid_part (bid_place (before + k)) (omega arith)
+      ∙ ap (λ (i : ℕ). take 7 (drop i bs)) (omega arith))
+
   module _ (sound : Sound bs) where
     head_part : head_bytes (market_of bs) ≡ take 7 bs
     head_part =
@@ -82,20 +91,6 @@ module _ (bs : List ℕ) (bytes : ByteString bs) where
         (counted _ 3 (sells_count bs)))
         (counted _ 5 (lines_count bs))
         ∙ part_listed 0 7 (omega (arith, sound.size))
-
-    buys_part : flat_map bid_bytes (market_of bs).buys ≡ take (7 * two bs 1) (drop 7 bs)
-    buys_part =
-        joined_parts bid_bytes _ 7 7 (two bs 1)
-        (λ k below.
-        bid_part (bid_place (0 + k)) (omega (arith, sound.size))
-        ∙ ap (λ (i : ℕ). take 7 (drop i bs)) (omega arith))
-
-    sells_part : flat_map bid_bytes (market_of bs).sells ≡ take (7 * two bs 3) (drop (7 + 7 * two bs 1) bs)
-    sells_part =
-        joined_parts bid_bytes _ 7 (7 + 7 * two bs 1) (two bs 3)
-        (λ k below.
-        bid_part (bid_place (two bs 1 + k)) (omega (arith, sound.size))
-        ∙ ap (λ (i : ℕ). take 7 (drop i bs)) (omega arith))
 
     lines_part : flat_map line_bytes (market_of bs).lines ≡ take (5 * two bs 5) (drop (7 + 7 * (two bs 1 + two bs 3)) bs)
     lines_part =
@@ -112,8 +107,9 @@ module _ (bs : List ℕ) (bytes : ByteString bs) where
         let nb = 7 * two bs 1 in
         let ns = 7 * two bs 3 in
         let nl = 5 * two bs 5 in
-        let with_buys = parts_meet 7 nb 7 hd bb refl head_part buys_part in
-        let with_sells = parts_meet (7 + nb) ns (7 + nb) (hd ++ bb) sb refl with_buys sells_part in
+        let with_buys = parts_meet 7 nb 7 hd bb refl head_part (bids_part 0 (two bs 1) (omega (arith, sound.size))) in
+        let with_sells = parts_meet (7 + nb) ns (7 + nb) (hd ++ bb) sb refl with_buys
+        (bids_part (two bs 1) (two bs 3) (omega (arith, sound.size))) in
         parts_meet (7 + nb + ns) nl _ (hd ++ bb ++ sb) lb (omega arith) with_sells lines_part
         ∙ take_all (7 + nb + ns + nl) bs (omega (arith, sound.size))
 
