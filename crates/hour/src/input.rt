@@ -7,12 +7,13 @@ ghost use Rattle.hour.specs.declared.input.Fault.TheVariants.{Memory};
 
 use std::alloc::AllocError;
 use std::env::Args;
+use std::error::Error;
 use std::io::Read;
 use std::process::ExitCode;
 use std::{env, fmt, fs, io};
 
 // Why a program has no answer. A refused hour is none of these: its refusal is the answer.
-#[derive(Drop)]
+#[derive(Debug, Drop)]
 pub enum Fault {
     // Other files are named than the program takes.
     Call,
@@ -42,6 +43,8 @@ impl fmt::Display for Fault {
         }
     }
 }
+
+impl Error for Fault {}
 
 impl From<AllocError> for Fault {
     ghost from_gives = { λ _ fault. fault ≡ Memory };
@@ -97,7 +100,7 @@ pub fn write_answer(rt: &HostRuntime, text: &str) -> Result<(), Fault> {
 }
 
 // The fault stands on standard error: `main` only has to end with status 1.
-#[derive(Drop)]
+#[derive(Clone, Copy, Debug, PartialEq, Eq)]
 pub struct Told;
 
 // Ends a run: a fault is one line that says what is wrong and what to type.

@@ -3,6 +3,7 @@ ghost use Rattle.std.specs.Prelude.{◌≡◌, Some};
 ghost use Rattle.hour.specs.Refusals.{count_place, number_of, place_of};
 ghost use Rattle.hour.specs.Text.{refused, sort_word};
 
+use std::error::Error;
 use std::fmt;
 
 // The three sorts of an hour's entries.
@@ -107,3 +108,5 @@ impl fmt::Display for Refusal {
         write!(f, "refused {number} at {place}")
     }
 }
+
+impl Error for Refusal {}

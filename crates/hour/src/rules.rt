@@ -59,7 +59,7 @@ pub fn check_counts(zones: u64, buys: u64, sells: u64, lines: u64) -> Result<(),
     check_count(Sort::Line, lines)
 }
 
-// The rule on a lent slice: it has a number among those that are lent, and needs some length.
+// The rule on a lent slice: it has a number among those that are lent, by which it is published, and needs some length.
 pub fn check_lent(slice: usize, has: usize, needed: usize) -> Result<(), Refusal>
     ensures { result_err result ≡ lent_fault slice has needed }
 {

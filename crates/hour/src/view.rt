@@ -11,7 +11,8 @@ use crate::items::{Bid, Line};
 use crate::reading::check_bytes;
 use crate::refusals::{Refusal, Sort};
 
-// The bytes of an hour that keeps every rule, with its counts; bids and lines are read where they stand.
+// The bytes of an hour that keeps every rule, with its counts; bids and lines are read where they stand. The counts are those
+// that the bytes say, and those of the market's lists.
 #[derive(Clone, Copy)]
 pub struct Hour<'a> {
     bytes: &'a [u8],

@@ -35,7 +35,7 @@ fn put_head(out: &mut [u8], book: Book<'_>)
     put_low(out, 5, 2, book.lines.len() as u64);
 }
 
-// The first rule that one of a list breaks, behind so many bids.
+// The first rule that one of a list breaks, behind so many bids, as of entries in bytes in reading.rt.
 fn check_each<E: Entry>(zones: u64, bids: usize, list: &[E]) -> Result<(), Refusal>
     requires { E.place bids (length list.now) < 2 ^ 64 }
     ensures { result_err result ≡ first (length list.now) (λ k. E.fault zones (E.place bids k) (slice_index_or list.now k E.absent)) }
