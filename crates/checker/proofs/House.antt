@@ -1,11 +1,10 @@
 -- What the entry on an hour's bytes leaves is accepted, and its prices are found the lowest. Assumes nothing.
-use Rattle.std.proofs.Common.{ℕ, List, sym, arith}
+use Rattle.std.proofs.Common.{ℕ, List, Ok, sym, arith}
 use Rattle.hour.proofs.Kept.{kept, buys_count, sells_count, lines_count}
 use Rattle.hour.specs.Bytes.{market_of}
 use Rattle.network.proofs.Agree.{feasible_agree, settled_agree, lowest_agree, fronts_agree, front_prices}
 use Rattle.network.specs.Prices.{Lowest}
 use Rattle.prices.proofs.Bounds.{proper_kept}
-use Rattle.prices.specs.declared.ended.Ended.TheVariants.{Done}
 use Rattle.ledger.proofs.Faults.{taken_hour, results_room}
 use Rattle.ledger.proofs.OneAnswer.{whole_promise}
 use Rattle.ledger.specs.Entry.{Slices, Answer}
@@ -13,13 +12,13 @@ use Rattle.checker.proofs.Publishing.{published_accepted, lowest_found}
 use Rattle.checker.specs.Promises.{Published, HouseAccepted, HouseLowest, outcome_left}
 
 -- Idea: the slices agree with their fronts, which are what was found.
-module _ (bs : List ℕ) (old new : Slices) (n : ℕ) (answer : Answer bs old (Done n) new) where
+module _ (bs : List ℕ) (old new : Slices) (n : ℕ) (answer : Answer bs old (Ok n) new) where
   stands : Published bs (outcome_left new) new.price
   stands =
       let m = market_of bs in
       let taken = taken_hour bs _ (sym answer.refusal) in
       let proper = proper_kept m (kept bs taken) in
-      let promise = whole_promise bs old new (Done n) answer in
+      let promise = whole_promise bs old new (Ok n) answer in
       let room = results_room bs old.bought old.sold old.flow old.price _ _ (sym answer.refusal) in
       let agree = fronts_agree m new.bought new.sold new.flow in
       record {
@@ -36,7 +35,7 @@ module _ (bs : List ℕ) (old new : Slices) (n : ℕ) (answer : Answer bs old (D
   lowest_left =
       let m = market_of bs in
       let proper = proper_kept m (kept bs (taken_hour bs _ (sym answer.refusal))) in
-      lowest_agree m _ new.price proper (front_prices m new.price) (whole_promise bs old new (Done n) answer).lowest
+      lowest_agree m _ new.price proper (front_prices m new.price) (whole_promise bs old new (Ok n) answer).lowest
 
 pub house_accepted : HouseAccepted
 house_accepted bs old new n answer = published_accepted bs (outcome_left new) new.price (stands bs old new n answer)

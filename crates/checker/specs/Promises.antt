@@ -22,7 +22,6 @@ use Rattle.hour.specs.declared.refusals.Sort.TheVariants as sorts
 use Rattle.network.specs.Network.{carried}
 use Rattle.network.specs.Prices.{Lowest}
 use Rattle.network.specs.Tables.{outcome_in}
-use Rattle.prices.specs.declared.ended.Ended.TheVariants.{Done}
 use Rattle.ledger.specs.Entry.{Slices, Answer}
 use Rattle.ledger.specs.Money.{item, count, money, worth_by, Payable}
 use Rattle.ledger.specs.Published as texts
@@ -67,12 +66,12 @@ outcome_left new = outcome_in new.bought new.sold new.flow
 
 abbrev pub HouseAccepted : Type 0
 HouseAccepted =
-    (bs : List ℕ) (old new : Slices) (n : ℕ) → Answer bs old (Done n) new →
+    (bs : List ℕ) (old new : Slices) (n : ℕ) → Answer bs old (Ok n) new →
     verdict_of bs (outcome_left new) new.price ≡ Accepted
 
 abbrev pub HouseLowest : Type 0
 HouseLowest =
-    (bs : List ℕ) (old new : Slices) (n : ℕ) → Answer bs old (Done n) new → (marks after : List ℕ) →
+    (bs : List ℕ) (old new : Slices) (n : ℕ) → Answer bs old (Ok n) new → (marks after : List ℕ) →
     (market_of bs).zones ≤ length marks → Left bs (outcome_left new) new.price marks after →
     lowness_of bs (outcome_left new) new.price (length marks) after ≡ lowness.Lowest
 

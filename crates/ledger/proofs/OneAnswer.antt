@@ -1,5 +1,5 @@
 -- The entry's answer is one, keeps the whole promise, and is no refusal of an hour that keeps the rules. Assumes nothing.
-use Rattle.std.proofs.Common.{◌≡◌, ℕ, ◌+◌, ◌-◌, ◌<◌, ◌≤◌, List, ◌++◌, length, take, drop, Some, None, Option, sym, refl, ap, ◌∙◌, subst, ap₂, inl, inr, arith}
+use Rattle.std.proofs.Common.{◌≡◌, ℕ, ◌+◌, ◌-◌, ◌<◌, ◌≤◌, List, ◌++◌, length, take, drop, Some, None, Ok, Err, Option, sym, refl, ap, ◌∙◌, subst, ap₂, inl, inr, arith}
 use Rattle.std.proofs.lemmas.List.{take-append-drop, ext_get_or, get_or-drop}
 use Rattle.std.proofs.lemmas.Bool.{cases_lt}
 use Rattle.hour.proofs.Kept.{kept, buys_count, sells_count, lines_count}
@@ -11,7 +11,6 @@ use Rattle.hour.specs.declared.refusals.Refusal.{Refusal}
 use Rattle.prices.proofs.Bounds.{proper_kept}
 use Rattle.prices.proofs.Promised.{found_promised, one_found}
 use Rattle.prices.specs.Found.{result_in, prices_in}
-use Rattle.prices.specs.declared.ended.Ended.TheVariants.{Done, Refused}
 use Rattle.ledger.proofs.Even.{ledger_even}
 use Rattle.ledger.proofs.Faults.{taken_hour, slices_enough, refusal_enough}
 use Rattle.ledger.proofs.OneLedger.{one_ledger}
@@ -56,23 +55,23 @@ same_slices new other bought sold flow price ledger work = λ i.
 
 -- Idea: what is found is one, so the fronts are the same; the rest of every slice is as it was.
 pub one_answer : OneAnswer
-one_answer bs old new other (Refused x) (Refused y) a b =
+one_answer bs old new other (Err x) (Err y) a b =
     let same : x ≡ y = let e = a.refusal ∙ sym b.refusal in cc in
     record {
-      answer = ap Refused same;
+      answer = ap Err same;
       slices =
           same_slices new other (a.bought ∙ sym b.bought) (a.sold ∙ sym b.sold) (a.flow ∙ sym b.flow)
           (a.price ∙ sym b.price) (a.ledger ∙ sym b.ledger) (a.work ∙ sym b.work);
     }
-one_answer bs old new other (Refused x) (Done n) a b =
+one_answer bs old new other (Err x) (Ok n) a b =
     let e = a.refusal ∙ sym b.refusal in
     let z : ◌≡◌ {A = ℕ} 0 1 = cc in
     absurd (omega arith)
-one_answer bs old new other (Done n) (Refused y) a b =
+one_answer bs old new other (Ok n) (Err y) a b =
     let e = a.refusal ∙ sym b.refusal in
     let z : ◌≡◌ {A = ℕ} 0 1 = cc in
     absurd (omega arith)
-one_answer bs old new other (Done n) (Done j) a b =
+one_answer bs old new other (Ok n) (Ok j) a b =
     let m = market_of bs in
     let proper = proper_kept m (rules_answered bs _ a.refusal) in
     let same = one_found m n j _ _ _ _ proper a.found b.found in
@@ -83,7 +82,7 @@ one_answer bs old new other (Done n) (Done j) a b =
     in
     let rows = (one_ledger m _ _ new.ledger other.ledger booked b.booked).rows in
     record {
-      answer = ap Done same.count;
+      answer = ap Ok same.count;
       slices =
           same_slices new other
           (whole (length m.buys) _ _ _ (ap (λ (o : Outcome). o.bought) same.outcome) a.bought b.bought)
@@ -95,7 +94,7 @@ one_answer bs old new other (Done n) (Done j) a b =
     }
 
 pub whole_promise : WholePromise
-whole_promise bs old new (Refused x) a =
+whole_promise bs old new (Err x) a =
     record {
       carried_out = tt;
       settled = tt;
@@ -106,7 +105,7 @@ whole_promise bs old new (Refused x) a =
       even = tt;
       pushes = tt;
     }
-whole_promise bs old new (Done n) a =
+whole_promise bs old new (Ok n) a =
     let m = market_of bs in
     let proper = proper_kept m (rules_answered bs _ a.refusal) in
     let promised = found_promised m n _ _ proper a.found in

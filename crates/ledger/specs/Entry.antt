@@ -17,7 +17,8 @@
 --
 -- A slice's needed length is a number for each buy, sell, line and zone; for the ledger a row for each buy, sell and line, and
 -- three sums; for work 64 numbers for each buy, sell and line.
-use Rattle.std.specs.Prelude.{◌≡◌, ℕ, ◌+◌, ◌*◌, ◌≤◌, List, ◌++◌, length, drop, replicate, Option}
+use Rattle.std.specs.Prelude.{◌≡◌, ℕ, ◌+◌, ◌*◌, ◌≤◌, List, ◌++◌, length, drop, replicate, Option, Result, IfOk}
+use Rattle.std.specs.Result.{result_err}
 use Rattle.hour.specs.Bytes.{market_of, head_of, refusal_with}
 use Rattle.hour.specs.First.{◌else◌}
 use Rattle.hour.specs.Market.{Market, Feasible, Settled}
@@ -27,10 +28,9 @@ use Rattle.hour.specs.declared.refusals.Refusal.{Refusal}
 use Rattle.hour.specs.declared.rules.Lengths.{Lengths}
 use Rattle.network.specs.Prices.{Lowest, NoRegrets}
 use Rattle.circulation.specs.Promises.{StepsSound, top}
-use Rattle.prices.specs.Ended.{refusal_in, WhenDone, FoundIn, Left, Wiped, lengths}
+use Rattle.prices.specs.Ended.{FoundIn, Left, Wiped, lengths}
 use Rattle.prices.specs.Found.{Found, result_in, prices_in, BestOf}
 use Rattle.prices.specs.Laid.{nothing}
-use Rattle.prices.specs.declared.ended.Ended.{Ended}
 use Rattle.ledger.specs.Money.{row_count, LedgerOf}
 use Rattle.ledger.specs.Promises.{Evens}
 
@@ -46,34 +46,34 @@ slices_fault h has ledger work =
 abbrev pub hour_fault : List ℕ → Lengths → ℕ → ℕ → Option Refusal
 hour_fault bs has ledger work = refusal_with bs (slices_fault (head_of bs) has ledger work)
 
-abbrev pub CarriedOut : Ended → Market → List ℕ → List ℕ → List ℕ → Type 0
-CarriedOut r m bought sold flow = WhenDone r (λ n. Feasible m (result_in m bought sold flow))
+abbrev pub CarriedOut : Result ℕ Refusal → Market → List ℕ → List ℕ → List ℕ → Type 0
+CarriedOut r m bought sold flow = IfOk r (λ n. Feasible m (result_in m bought sold flow))
 
-abbrev pub SettledBy : Ended → Market → List ℕ → List ℕ → List ℕ → List ℕ → Type 0
+abbrev pub SettledBy : Result ℕ Refusal → Market → List ℕ → List ℕ → List ℕ → List ℕ → Type 0
 SettledBy r m bought sold flow price =
-    WhenDone r (λ n. Settled m (result_in m bought sold flow) (prices_in m price))
+    IfOk r (λ n. Settled m (result_in m bought sold flow) (prices_in m price))
 
-abbrev pub LowestPrices : Ended → Market → List ℕ → Type 0
-LowestPrices r m price = WhenDone r (λ n. Lowest m (prices_in m price))
+abbrev pub LowestPrices : Result ℕ Refusal → Market → List ℕ → Type 0
+LowestPrices r m price = IfOk r (λ n. Lowest m (prices_in m price))
 
-abbrev pub BestWorth : Ended → Market → List ℕ → List ℕ → List ℕ → Type 0
-BestWorth r m bought sold flow = WhenDone r (λ n. BestOf m (result_in m bought sold flow))
+abbrev pub BestWorth : Result ℕ Refusal → Market → List ℕ → List ℕ → List ℕ → Type 0
+BestWorth r m bought sold flow = IfOk r (λ n. BestOf m (result_in m bought sold flow))
 
-abbrev pub NobodyRegrets : Ended → Market → List ℕ → List ℕ → List ℕ → List ℕ → Type 0
+abbrev pub NobodyRegrets : Result ℕ Refusal → Market → List ℕ → List ℕ → List ℕ → List ℕ → Type 0
 NobodyRegrets r m bought sold flow price =
-    WhenDone r (λ n. NoRegrets m (result_in m bought sold flow) (prices_in m price))
+    IfOk r (λ n. NoRegrets m (result_in m bought sold flow) (prices_in m price))
 
-abbrev pub Counted : Ended → Market → List ℕ → List ℕ → List ℕ → Type 0
+abbrev pub Counted : Result ℕ Refusal → Market → List ℕ → List ℕ → List ℕ → Type 0
 Counted r m bought sold flow =
-    WhenDone r (λ n. StepsSound m (nothing m) (result_in m bought sold flow) n × (n ≤ top m))
+    IfOk r (λ n. StepsSound m (nothing m) (result_in m bought sold flow) n × (n ≤ top m))
 
-abbrev pub Booked : Ended → Market → List ℕ → List ℕ → List ℕ → List ℕ → List ℕ → Type 0
+abbrev pub Booked : Result ℕ Refusal → Market → List ℕ → List ℕ → List ℕ → List ℕ → List ℕ → Type 0
 Booked r m bought sold flow price ledger =
-    WhenDone r (λ n. LedgerOf m (result_in m bought sold flow) (prices_in m price) ledger)
+    IfOk r (λ n. LedgerOf m (result_in m bought sold flow) (prices_in m price) ledger)
 
-abbrev pub Closed : Ended → Market → List ℕ → List ℕ → List ℕ → List ℕ → Type 0
+abbrev pub Closed : Result ℕ Refusal → Market → List ℕ → List ℕ → List ℕ → List ℕ → Type 0
 Closed r m bought sold flow price =
-    WhenDone r (λ n. Evens m (result_in m bought sold flow) (prices_in m price))
+    IfOk r (λ n. Evens m (result_in m bought sold flow) (prices_in m price))
 
 pub record Slices : Type 0 where
   pub bought : List ℕ
@@ -98,9 +98,9 @@ pub record ClearedIn (m : Market) (n : ℕ) (old new : Slices) : Type 0 where
   pub ledger : drop (row_count m + 3) new.ledger ≡ drop (row_count m + 3) old.ledger
   pub work : new.work ≡ replicate (64 * row_count m) 0 ++ drop (64 * row_count m) old.work
 
-pub record Answer (bs : List ℕ) (old : Slices) (r : Ended) (new : Slices) : Type 0 where
+pub record Answer (bs : List ℕ) (old : Slices) (r : Result ℕ Refusal) (new : Slices) : Type 0 where
   pub refusal :
-      refusal_in r
+      result_err r
       ≡ hour_fault bs (lengths (length old.bought) (length old.sold) (length old.flow) (length old.price))
       (length old.ledger) (length old.work)
   pub found : FoundIn r (market_of bs) new.bought new.sold new.flow new.price

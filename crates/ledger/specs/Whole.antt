@@ -4,27 +4,27 @@
 --   WholePromise    what is left of an hour that was cleared keeps the whole promise, from its bytes to its ledger
 --   AlwaysCleared   an hour that keeps the rules, with enough lent, is never refused
 --   OneText         what is published of bytes is one text
-use Rattle.std.specs.Prelude.{◌≡◌, ℕ, ◌+◌, ◌*◌, ◌≤◌, List, length, None}
+use Rattle.std.specs.Prelude.{◌≡◌, ℕ, ◌+◌, ◌*◌, ◌≤◌, List, length, None, Result}
 use Rattle.hour.specs.Bytes.{market_of, bytes_of}
 use Rattle.hour.specs.Market.{Market}
 use Rattle.hour.specs.Rules.{KeepsRules}
 use Rattle.hour.specs.declared.rules.Lengths.{Lengths}
-use Rattle.prices.specs.declared.ended.Ended.{Ended}
+use Rattle.hour.specs.declared.refusals.Refusal.{Refusal}
 use Rattle.ledger.specs.Entry.{Slices, Answer, hour_fault, CarriedOut, SettledBy, LowestPrices, BestWorth}
 use Rattle.ledger.specs.Entry.{NobodyRegrets, Counted, Booked, Closed}
 use Rattle.ledger.specs.Money.{row_count}
 use Rattle.ledger.specs.Published.{Published}
 
-pub record SameAnswer (r s : Ended) (new other : Slices) : Type 0 where
+pub record SameAnswer (r s : Result ℕ Refusal) (new other : Slices) : Type 0 where
   pub answer : r ≡ s
   pub slices : new ≡ other
 
 abbrev pub OneAnswer : Type 0
 OneAnswer =
-    (bs : List ℕ) (old new other : Slices) (r s : Ended) → Answer bs old r new → Answer bs old s other →
+    (bs : List ℕ) (old new other : Slices) (r s : Result ℕ Refusal) → Answer bs old r new → Answer bs old s other →
     SameAnswer r s new other
 
-pub record Promise (r : Ended) (m : Market) (new : Slices) : Type 0 where
+pub record Promise (r : Result ℕ Refusal) (m : Market) (new : Slices) : Type 0 where
   pub carried_out : CarriedOut r m new.bought new.sold new.flow
   pub settled : SettledBy r m new.bought new.sold new.flow new.price
   pub lowest : LowestPrices r m new.price
@@ -36,7 +36,7 @@ pub record Promise (r : Ended) (m : Market) (new : Slices) : Type 0 where
 
 abbrev pub WholePromise : Type 0
 WholePromise =
-    (bs : List ℕ) (old new : Slices) (r : Ended) → Answer bs old r new → Promise r (market_of bs) new
+    (bs : List ℕ) (old new : Slices) (r : Result ℕ Refusal) → Answer bs old r new → Promise r (market_of bs) new
 
 -- lengths of lent slices that are enough for a market
 pub record Enough (m : Market) (has : Lengths) (ledger work : ℕ) : Type 0 where

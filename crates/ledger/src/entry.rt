@@ -1,7 +1,8 @@
 // The entry on an hour's bytes: refused with a rule and a place, or cleared, with its ledger.
 ghost use Rattle.std.specs.Prelude.{◌≡◌, ◌+◌, ◌*◌, ◌≤◌, length, Ok};
+ghost use Rattle.std.specs.Result.{result_err};
 ghost use Rattle.hour.specs.Bytes.{market_of, head_read};
-ghost use Rattle.prices.specs.Ended.{refusal_in, FoundIn, Left, Wiped, lengths};
+ghost use Rattle.prices.specs.Ended.{FoundIn, Left, Wiped, lengths};
 ghost use Rattle.prices.specs.Found.{Roomy};
 ghost use Rattle.ledger.specs.Entry.{slices_fault, hour_fault, CarriedOut, SettledBy, LowestPrices, NobodyRegrets};
 ghost use Rattle.ledger.specs.Entry.{BestWorth, Booked, Closed, Counted, ClearedIn, slices};
@@ -10,7 +11,7 @@ ghost use Rattle.ledger.specs.Money.{market_said, row_count};
 use crate::rows::write_ledger;
 use hour::{Head, Hour, Lengths, Refusal, check_items, check_lent, check_results, read_head};
 use network::Amounts;
-use prices::{Ended, clear_lent};
+use prices::clear_lent;
 
 // The first lent slice that is too short for an hour with this head.
 fn check_slices(
@@ -99,8 +100,8 @@ pub fn clear(
     price: &mut [u64],
     ledger: &mut [u64],
     work: &mut [u64],
-) -> Ended
-    ensures refusal { refusal_in result ≡ hour_fault bytes.now (lengths (length bought.old) (length sold.old) (length flow.old) (length price.old)) (length ledger.old) (length work.old) }
+) -> Result<u64, Refusal>
+    ensures refusal { result_err result ≡ hour_fault bytes.now (lengths (length bought.old) (length sold.old) (length flow.old) (length price.old)) (length ledger.old) (length work.old) }
     ensures carried_out { CarriedOut result (market_of bytes.now) bought.new sold.new flow.new }
     ensures settled { SettledBy result (market_of bytes.now) bought.new sold.new flow.new price.new }
     ensures lowest { LowestPrices result (market_of bytes.now) price.new }
@@ -124,8 +125,8 @@ pub fn clear(
         prices: price.len(),
     };
     if let Some(refusal) = hour_refusal(bytes, has, ledger.len(), work.len()) {
-        return Ended::Refused(refusal);
+        return Err(refusal);
     }
     let hour = Hour::of(bytes);
-    Ended::Done(clear_and_book(hour, bought, sold, flow, price, ledger, work))
+    Ok(clear_and_book(hour, bought, sold, flow, price, ledger, work))
 }

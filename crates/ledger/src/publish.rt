@@ -8,7 +8,6 @@ use crate::entry::clear;
 use crate::text::hour_text;
 use hour::{Head, Hour, Refusal, read_head};
 use network::Amounts;
-use prices::Ended;
 use std::alloc::{AllocError, Global};
 
 fn zeros(heap: Global, n: usize) -> Result<Vec<u64>, AllocError>
@@ -40,8 +39,8 @@ fn cleared_text(
     ensures { IfOk result (λ t. Published bytes.now (string_bytes t)) }
 {
     match clear(bytes, bought, sold, flow, price, ledger, work) {
-        Ended::Refused(refusal) => refusal_row(heap, refusal),
-        Ended::Done(pushes) => {
+        Err(refusal) => refusal_row(heap, refusal),
+        Ok(pushes) => {
             let o = Amounts {
                 bought: &*bought,
                 sold: &*sold,

@@ -1,7 +1,6 @@
 // Hours cleared in slices that are just long enough, or one number too short.
 use hour::read_head;
 use lent::{Lent, Sizes};
-use prices::Ended;
 use std::alloc::{AllocError, Global};
 
 // Whether the hour's ledger closes.
@@ -11,8 +10,8 @@ pub fn closing_word(heap: Global, bytes: &[u8]) -> Result<&'static str, AllocErr
     };
     let mut lent = Lent::new(heap, Sizes::for_head(head))?;
     match lent.clear(bytes) {
-        Ended::Refused(_) => Ok("refused"),
-        Ended::Done(_) => {
+        Err(_) => Ok("refused"),
+        Ok(_) => {
             if lent.closes() {
                 Ok("closes")
             } else {
@@ -35,7 +34,7 @@ pub fn one_short(heap: Global, bytes: &[u8], slice: usize) -> Result<String, All
         "changed"
     };
     match ended {
-        Ended::Refused(refusal) => format!(in heap; "{refusal} {word}\n"),
-        Ended::Done(_) => format!(in heap; "not refused {word}\n"),
+        Err(refusal) => format!(in heap; "{refusal} {word}\n"),
+        Ok(_) => format!(in heap; "not refused {word}\n"),
     }
 }

@@ -2,9 +2,8 @@
 // sums of a ledger close.
 #![tactic(auto)]
 
-use hour::Head;
+use hour::{Head, Refusal};
 use ledger::clear;
-use prices::Ended;
 use std::alloc::{AllocError, Global};
 
 // No amount, price or money of an hour is so large.
@@ -88,7 +87,7 @@ impl Lent {
         })
     }
 
-    pub fn clear(&mut self, bytes: &[u8]) -> Ended {
+    pub fn clear(&mut self, bytes: &[u8]) -> Result<u64, Refusal> {
         clear(
             bytes,
             self.bought.as_mut_slice(),

@@ -1,7 +1,6 @@
 -- How clearing ends, and what it leaves in lent slices. Assumes nothing: these are definitions.
 --
---   refusal_in r         the refusal that an answer is, if it is one
---   WhenDone r P         where a market was cleared, with n pushes, P n
+--   an answer            Ok n where a market was cleared, with n pushes, or Err with the refusal
 --   FoundIn r m ..       where m was cleared, what four slices hold is what is found; PromisedIn what is promised of it
 --   Left r n old new     a slice that held old: as it was where the answer is a refusal, else as it was from number n on
 --   Wiped r n old new    the same, with zeros before number n
@@ -12,7 +11,7 @@
 --                        by bid and line by line, at the places of the written hour
 --
 -- Lent slices have numbers: bought 0, sold 1, flow 2, prices 3, and work 5, as where a ledger is lent too.
-use Rattle.std.specs.Prelude.{◌≡◌, ℕ, ◌+◌, ◌*◌, ◌%◌, ◌≤◌, not, List, ◌++◌, length, drop, replicate, Some, None, Option, ◌==◌}
+use Rattle.std.specs.Prelude.{◌≡◌, ℕ, ◌+◌, ◌*◌, ◌%◌, ◌≤◌, not, List, ◌++◌, length, drop, replicate, Option, Result, Ok, Err, IfOk, ◌==◌}
 use Rattle.hour.specs.First.{when, ◌else◌}
 use Rattle.hour.specs.Market.{Market}
 use Rattle.hour.specs.Rules.{counts_fault, item_fault, lent_fault, results_fault, max_bids, max_lines}
@@ -21,31 +20,21 @@ use Rattle.hour.specs.declared.refusals.Refusal.TheVariants.{Length}
 use Rattle.hour.specs.declared.rules.Lengths.{Lengths}
 use Rattle.network.specs.Tables.{items, market_in}
 use Rattle.prices.specs.Found.{Found, Promised, result_in, prices_in}
-use Rattle.prices.specs.declared.ended.Ended.{Ended}
-use Rattle.prices.specs.declared.ended.Ended.TheVariants.{Done, Refused}
 
-abbrev pub refusal_in : Ended → Option Refusal
-refusal_in (Done n) = None
-refusal_in (Refused refusal) = Some refusal
+abbrev pub FoundIn : Result ℕ Refusal → Market → List ℕ → List ℕ → List ℕ → List ℕ → Type 0
+FoundIn r m bought sold flow price = IfOk r (λ n. Found m n (result_in m bought sold flow) (prices_in m price))
 
-abbrev pub WhenDone : Ended → (ℕ → Type 0) → Type 0
-WhenDone (Done n) P = P n
-WhenDone (Refused refusal) P = Unit {0}
-
-abbrev pub FoundIn : Ended → Market → List ℕ → List ℕ → List ℕ → List ℕ → Type 0
-FoundIn r m bought sold flow price = WhenDone r (λ n. Found m n (result_in m bought sold flow) (prices_in m price))
-
-abbrev pub PromisedIn : Ended → Market → List ℕ → List ℕ → List ℕ → List ℕ → Type 0
+abbrev pub PromisedIn : Result ℕ Refusal → Market → List ℕ → List ℕ → List ℕ → List ℕ → Type 0
 PromisedIn r m bought sold flow price =
-    WhenDone r (λ n. Promised m n (result_in m bought sold flow) (prices_in m price))
+    IfOk r (λ n. Promised m n (result_in m bought sold flow) (prices_in m price))
 
-abbrev pub Left : Ended → ℕ → List ℕ → List ℕ → Type 0
-Left (Done n) used old new = drop used new ≡ drop used old
-Left (Refused refusal) used old new = new ≡ old
+abbrev pub Left : Result ℕ Refusal → ℕ → List ℕ → List ℕ → Type 0
+Left (Ok n) used old new = drop used new ≡ drop used old
+Left (Err refusal) used old new = new ≡ old
 
-abbrev pub Wiped : Ended → ℕ → List ℕ → List ℕ → Type 0
-Wiped (Done n) used old new = new ≡ replicate used 0 ++ drop used old
-Wiped (Refused refusal) used old new = new ≡ old
+abbrev pub Wiped : Result ℕ Refusal → ℕ → List ℕ → List ℕ → Type 0
+Wiped (Ok n) used old new = new ≡ replicate used 0 ++ drop used old
+Wiped (Err refusal) used old new = new ≡ old
 
 abbrev pub ragged_fault : ℕ → Option Refusal
 ragged_fault n = when (not (n % 3 == 0)) (Length n)

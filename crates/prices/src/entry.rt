@@ -1,12 +1,12 @@
 // The entry on tables: whatever they hold, they are cleared or refused.
 ghost use Rattle.std.specs.Prelude.{◌≡◌, ◌+◌, ◌*◌, ◌≤◌, length};
+ghost use Rattle.std.specs.Result.{result_err};
 ghost use Rattle.hour.specs.Rules.{bids_fault, all_lines_fault, item_fault};
 ghost use Rattle.network.specs.Tables.{items, bids_in, lines_in, market_in};
 ghost use Rattle.paths.specs.Search.{market_given};
-ghost use Rattle.prices.specs.Ended.{refusal_in, FoundIn, PromisedIn, Left, Wiped, ragged_fault, layout_fault};
+ghost use Rattle.prices.specs.Ended.{FoundIn, PromisedIn, Left, Wiped, ragged_fault, layout_fault};
 ghost use Rattle.prices.specs.Ended.{lengths, slices_fault, tables_fault, Small};
 
-use crate::ended::Ended;
 use crate::tables::clear_tables;
 use hour::{Lengths, Refusal, check_bid, check_counts, check_lent, check_line, check_results};
 use network::{Tables, bid_in, line_in};
@@ -139,8 +139,8 @@ pub fn clear<'a>(
     flow: &mut [u64],
     price: &mut [u64],
     work: &mut [u64],
-) -> Ended
-    ensures refusal { refusal_in result ≡ tables_fault zones buys.now sells.now lines.now (lengths (length bought.old) (length sold.old) (length flow.old) (length price.old)) (length work.old) }
+) -> Result<u64, Refusal>
+    ensures refusal { result_err result ≡ tables_fault zones buys.now sells.now lines.now (lengths (length bought.old) (length sold.old) (length flow.old) (length price.old)) (length work.old) }
     ensures found { FoundIn result (market_in zones buys.now sells.now lines.now) bought.new sold.new flow.new price.new }
     ensures promised { PromisedIn result (market_in zones buys.now sells.now lines.now) bought.new sold.new flow.new price.new }
     ensures bought { Left result (items buys.now) bought.old bought.new }
@@ -162,9 +162,9 @@ pub fn clear<'a>(
         prices: price.len(),
     };
     if let Some(refusal) = tables_refusal(t, has, work.len()) {
-        return Ended::Refused(refusal);
+        return Err(refusal);
     }
     let items = buys.len() / 3 + sells.len() / 3 + lines.len() / 3;
     let work = &mut work[0..64 * items];
-    Ended::Done(clear_tables(t, bought, sold, flow, price, work))
+    Ok(clear_tables(t, bought, sold, flow, price, work))
 }

@@ -2,7 +2,6 @@
 #![tactic(auto)]
 
 mod clearing;
-mod ended;
 mod entry;
 mod hours;
 mod lay;
@@ -11,7 +10,6 @@ mod publish;
 mod tables;
 
 pub use clearing::clear_hour;
-pub use ended::Ended;
 pub use entry::clear;
 pub use hours::clear_lent;
 pub use publish::published_text;

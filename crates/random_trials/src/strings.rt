@@ -3,7 +3,6 @@ use crate::draws::Draws;
 use crate::small::Small;
 use hour::read_head;
 use lent::{Lent, Sizes};
-use prices::Ended;
 use std::alloc::{AllocError, Global};
 
 const LONGEST: u64 = 48;
@@ -93,13 +92,13 @@ impl Strings {
         let bytes = drawn_string(heap, draws, &small)?;
         let mut lent = Lent::new(heap, drawn_sizes(draws, &small, bytes.as_slice()))?;
         match lent.clear(bytes.as_slice()) {
-            Ended::Refused(_) => {
+            Err(_) => {
                 self.refused = self.refused.saturating_add(1);
                 if !lent.unchanged() {
                     self.changed = self.changed.saturating_add(1);
                 }
             }
-            Ended::Done(_) => {
+            Ok(_) => {
                 self.cleared = self.cleared.saturating_add(1);
                 if !lent.closes() {
                     self.open = self.open.saturating_add(1);

@@ -8,7 +8,6 @@ use checker::{Lowness, Verdict, check, lowest};
 use hour::read_head;
 use ledger::published;
 use lent::{Lent, Sizes};
-use prices::Ended;
 use std::alloc::{AllocError, Global};
 
 // What of an hour is as the slow search has it.
@@ -61,7 +60,7 @@ fn clear_small(heap: Global, bytes: &[u8]) -> Result<Option<(Pair, bool)>, Alloc
         return Ok(None);
     };
     let mut lent = Lent::new(heap, Sizes::for_head(head))?;
-    if let Ended::Refused(_) = lent.clear(bytes) {
+    if let Err(_) = lent.clear(bytes) {
         return Ok(None);
     }
     let closes = lent.closes();

@@ -10,7 +10,7 @@ pub hour_text-requires : goal.hour_text-requires
 hour_text-requires c =
     let a = c.args in
     let bytes = a.bytes.now in
-    let done = c.in-Done.ensures in
+    let done = c.in-Ok.ensures in
     let all = c.clear.auto in
     let none = done.refusal ∙ refusal_lent bytes _ _ _ _ _ _ a.head c.requires.head c.requires.lent in
     let fitted =
@@ -24,20 +24,20 @@ hour_text-requires c =
     in
     record { room = books.room; payable = books.payable; ledger = books.booked }
 
-pub returns-in-Refused : goal.returns-in-Refused
-returns-in-Refused c =
+pub returns-in-Err : goal.returns-in-Err
+returns-in-Err c =
     let a = c.args in
     let is =
-    c.in-Refused.ensures.refusal
+    c.in-Err.ensures.refusal
     ∙ refusal_lent a.bytes.now _ _ _ _ _ _ a.head c.requires.head c.requires.lent
     in
     IfOk-weaker c.refusal_row.result _ _ (λ t text. refused_published a.bytes.now _ _ is text) c.refusal_row.ensures
 
-pub returns-in-Done : goal.returns-in-Done
-returns-in-Done c =
+pub returns-in-Ok : goal.returns-in-Ok
+returns-in-Ok c =
     let a = c.args in
     let bytes = a.bytes.now in
-    let done = c.in-Done.ensures in
+    let done = c.in-Ok.ensures in
     let all = c.clear.auto in
     let none = done.refusal ∙ refusal_lent bytes _ _ _ _ _ _ a.head c.requires.head c.requires.lent in
     let fitted =
