@@ -1,7 +1,7 @@
 -- The first rule that an hour's bytes and the slices lent with them break. Assumes nothing.
-use Rattle.std.proofs.Common.{◌≡◌, ℕ, ◌+◌, ◌*◌, ◌≤◌, true, false, List, length, is_some, Some, None, Ok, Err, Option, sym, ap, ◌∙◌}
+use Rattle.std.proofs.Common.{◌≡◌, ℕ, ◌+◌, ◌*◌, ◌≤◌, List, length, Some, None, Ok, Err, Option, sym, ap, ◌∙◌}
 use Rattle.std.proofs.lemmas.Bool.{ltb-false, le-ltb}
-use Rattle.hour.proofs.First.{is_none, else_some, else_none, else_none_left, else_none_right, when_none, when_false}
+use Rattle.hour.proofs.First.{else_none, else_none_left, else_none_right, when_none, when_false}
 use Rattle.hour.proofs.Heads.{head_read_ok, head_read_err}
 use Rattle.hour.specs.Bytes.{head_fault, head_of, head_read, market_of, refusal_of, refusal_with}
 use Rattle.hour.specs.First.{◌else◌}
@@ -13,29 +13,19 @@ use Rattle.prices.specs.Ended.{lengths}
 use Rattle.prices.specs.Found.{Roomy}
 use Rattle.ledger.specs.Entry.{head_size, slices_fault, hour_fault}
 
--- what is wrong with the slices, where that is told by the head
-module _ (bs : List ℕ) (lent : Head → Option Refusal) where
-  -- a head that is refused
-  pub refused_head : (e : Refusal) → head_read bs ≡ Err e → Some e ≡ refusal_with bs (lent (head_of bs))
-  refused_head e err =
-      ap (λ (o : Option Refusal). o else (lent (head_of bs) else item_fault (market_of bs))) (sym (head_read_err bs e err))
+-- the first rule of all, where the head is read or refused
+module _ (bs : List ℕ) (has : Lengths) (ledger work : ℕ) where
+  pub fault_by_head :
+      (h : Head) → head_read bs ≡ Ok h →
+      hour_fault bs has ledger work ≡ (slices_fault h has ledger work else item_fault (market_of bs))
+  fault_by_head h ok =
+      else_none (head_fault bs) _ (head_read_ok bs h ok).0
+      ∙ ap (λ (k : Head). slices_fault k has ledger work else item_fault (market_of bs)) (sym (head_read_ok bs h ok).1)
 
-  module _ (h : Head) (ok : head_read bs ≡ Ok h) (r : Option Refusal) (is : r ≡ lent h) where
-    there : r ≡ lent (head_of bs)
-    there = is ∙ ap lent (head_read_ok bs h ok).1
-
-    -- a slice that is refused
-    pub refused_slice : is_some r ≡ true → r ≡ refusal_with bs (lent (head_of bs))
-    refused_slice some =
-        there
-        ∙ sym (else_none (head_fault bs) _ (head_read_ok bs h ok).0 ∙ else_some _ _ (ap is_some (sym there) ∙ some))
-
-    -- else it is left to the items
-    pub refused_items :
-        (items : Option Refusal) → is_some r ≡ false → items ≡ item_fault (market_of bs) →
-        items ≡ refusal_with bs (lent (head_of bs))
-    refused_items items none are =
-        are ∙ sym (else_none (head_fault bs) _ (head_read_ok bs h ok).0 ∙ else_none _ _ (sym there ∙ is_none r none))
+  pub fault_of_head : (e : Refusal) → head_read bs ≡ Err e → hour_fault bs has ledger work ≡ Some e
+  fault_of_head e err =
+      ap (λ (o : Option Refusal). o else (slices_fault (head_of bs) has ledger work else item_fault (market_of bs)))
+      (head_read_err bs e err)
 
 -- an hour with which nothing is refused is an hour
 pub taken_hour : (bs : List ℕ) (lent : Option Refusal) → refusal_with bs lent ≡ None → refusal_of bs ≡ None

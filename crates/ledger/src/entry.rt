@@ -20,9 +20,9 @@ fn check_slices(
     has: Lengths,
     ledger: usize,
     work: usize,
-) -> Option<Refusal>
+) -> Result<(), Refusal>
     requires { head_read bytes.now ≡ Ok head }
-    ensures { result ≡ slices_fault head has ledger work }
+    ensures { result_err result ≡ slices_fault head has ledger work }
 {
     let needed = Lengths {
         bought: head.buys as usize,
@@ -30,32 +30,19 @@ fn check_slices(
         flow: head.lines as usize,
         prices: head.zones as usize,
     };
-    let fault = check_results(has, needed);
-    if fault.is_some() {
-        return fault;
-    }
     let items = (head.buys + head.sells + head.lines) as usize;
-    let fault = check_lent(4, ledger, items + 3);
-    if fault.is_some() {
-        return fault;
-    }
+    check_results(has, needed)?;
+    check_lent(4, ledger, items + 3)?;
     check_lent(5, work, 64 * items)
 }
 
 // The first rule that the bytes and the lent slices break.
-fn hour_refusal(bytes: &[u8], has: Lengths, ledger: usize, work: usize) -> Option<Refusal>
-    ensures { result ≡ hour_fault bytes.now has ledger work }
+fn check_hour(bytes: &[u8], has: Lengths, ledger: usize, work: usize) -> Result<(), Refusal>
+    ensures { result_err result ≡ hour_fault bytes.now has ledger work }
 {
-    match read_head(bytes) {
-        Ok(head) => {
-            let fault = check_slices(bytes, head, has, ledger, work);
-            if fault.is_some() {
-                return fault;
-            }
-            check_items(bytes, head)
-        }
-        Err(refusal) => Some(refusal),
-    }
+    let head = read_head(bytes)?;
+    check_slices(bytes, head, has, ledger, work)?;
+    check_items(bytes, head)
 }
 
 // Clears an hour that keeps the rules and writes its ledger, in slices that are long enough. Answers how many pushes there were.
@@ -124,9 +111,7 @@ pub fn clear(
         flow: flow.len(),
         prices: price.len(),
     };
-    if let Some(refusal) = hour_refusal(bytes, has, ledger.len(), work.len()) {
-        return Err(refusal);
-    }
+    check_hour(bytes, has, ledger.len(), work.len())?;
     let hour = Hour::of(bytes);
     Ok(clear_and_book(hour, bought, sold, flow, price, ledger, work))
 }

@@ -1,11 +1,14 @@
 -- Tables that break no rule are those of a market that keeps them, with slices that are long enough. Assumes nothing.
-use Rattle.std.proofs.Common.{◌≡◌, ℕ, ◌+◌, ◌*◌, ◌≤◌, eqb, List, length, None, Option, sym, ap, ◌∙◌, pos_of_ne-zero}
+use Rattle.std.proofs.Common.{◌≡◌, ℕ, ◌+◌, ◌*◌, ◌<◌, ◌≤◌, eqb, List, length, Some, None, Option, sym, ap, ◌∙◌, pos_of_ne-zero, arith}
 use Rattle.std.proofs.lemmas.Bool.{eqb-false, ltb-false, or_parts}
-use Rattle.hour.proofs.First.{else_none_left, else_none_right, when_none}
+use Rattle.hour.proofs.First.{first_some, else_none_left, else_none_right, when_none}
 use Rattle.hour.proofs.Kept.{bids_kept, lines_kept}
 use Rattle.hour.specs.First.{first, ◌else◌}
-use Rattle.hour.specs.Market.{Market}
-use Rattle.hour.specs.Rules.{bids_fault, all_lines_fault, counts_fault, item_fault, KeepsRules}
+use Rattle.hour.specs.Market.{Market, bid, line}
+use Rattle.hour.specs.Rules.{bid_fault, line_fault, bid_place, line_place, bids_fault, all_lines_fault, counts_fault, item_fault, KeepsRules}
+use Rattle.hour.specs.declared.items.Bid.{Bid}
+use Rattle.hour.specs.declared.items.Line.{Line}
+use Rattle.hour.specs.declared.refusals.Refusal.{Refusal}
 use Rattle.hour.specs.declared.rules.Lengths.{Lengths}
 use Rattle.network.proofs.Rows.{length_bids_in, length_lines_in}
 use Rattle.network.specs.Tables.{items, bids_in, lines_in, market_in}
@@ -20,10 +23,35 @@ pub items_counted :
     ≡ item_fault (market_in z buys sells lines)
 items_counted z buys sells lines = sym (rw (length_bids_in buys, length_bids_in sells))
 
--- rows that break no rule, up to the last
-pub first_none_all :
-    {A : Type 0} (f : ℕ → Option A) (k n : ℕ) → k ≡ n → first k f ≡ None → None ≡ first n f
-first_none_all f k n all none = sym (ap (λ (j : ℕ). first j f) (sym all) ∙ none)
+-- a table's first fault, and none
+module _ (z before k : ℕ) (t : List ℕ) where
+  pub bids_found :
+      (b : Bid) (r : Option Refusal) (x : Refusal) → k < items t →
+      first k (λ j. bid_fault z (bid_place (before + j)) (bid (bids_in t) j)) ≡ None → b ≡ bid (bids_in t) k →
+      r ≡ bid_fault z (bid_place (before + k)) b → r ≡ Some x → bids_fault z before (bids_in t) ≡ Some x
+  bids_found b r x below none same is found =
+      first_some _ k (length (bids_in t)) x (omega (arith, length_bids_in t)) none
+      (sym (is ∙ ap (bid_fault z (bid_place (before + k))) same) ∙ found)
+
+  pub bids_sound :
+      items t ≤ k → k ≤ items t → first k (λ j. bid_fault z (bid_place (before + j)) (bid (bids_in t) j)) ≡ None →
+      None ≡ bids_fault z before (bids_in t)
+  bids_sound past within none =
+      let all : length (bids_in t) ≡ k = omega (arith, length_bids_in t) in rw all (sym none)
+
+  pub lines_found :
+      (l : Line) (r : Option Refusal) (x : Refusal) → k < items t →
+      first k (λ j. line_fault z (line_place before j) (line (lines_in t) j)) ≡ None → l ≡ line (lines_in t) k →
+      r ≡ line_fault z (line_place before k) l → r ≡ Some x → all_lines_fault z before (lines_in t) ≡ Some x
+  lines_found l r x below none same is found =
+      first_some _ k (length (lines_in t)) x (omega (arith, length_lines_in t)) none
+      (sym (is ∙ ap (line_fault z (line_place before k)) same) ∙ found)
+
+  pub lines_sound :
+      items t ≤ k → k ≤ items t → first k (λ j. line_fault z (line_place before j) (line (lines_in t) j)) ≡ None →
+      None ≡ all_lines_fault z before (lines_in t)
+  lines_sound past within none =
+      let all : length (lines_in t) ≡ k = omega (arith, length_lines_in t) in rw all (sym none)
 
 -- what counts and items that break no rule say of a market
 pub rules_kept :

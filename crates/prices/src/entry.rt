@@ -12,71 +12,54 @@ use hour::{Lengths, Refusal, check_bid, check_counts, check_lent, check_line, ch
 use network::{Tables, bid_in, line_in};
 
 // A table has three numbers for each item.
-fn check_table(table: &[u64]) -> Option<Refusal>
-    ensures { result ≡ ragged_fault (length table.now) }
+fn check_table(table: &[u64]) -> Result<(), Refusal>
+    ensures { result_err result ≡ ragged_fault (length table.now) }
 {
     if table.len() % 3 != 0 {
-        return Some(Refusal::Length { came: table.len() });
+        return Err(Refusal::Length { came: table.len() });
     }
-    None
+    Ok(())
 }
 
 // The first rule that one of a table's bids breaks, which stand behind `before` others in the written hour.
-fn check_bids(zones: u64, before: usize, table: &[u64]) -> Option<Refusal>
+fn check_bids(zones: u64, before: usize, table: &[u64]) -> Result<(), Refusal>
     requires { before + items table.now ≤ 2000 }
-    ensures { result ≡ bids_fault zones before (bids_in table.now) }
+    ensures { result_err result ≡ bids_fault zones before (bids_in table.now) }
 {
     for k in 0..table.len() / 3 {
-        let fault = check_bid(zones, 7 + 7 * (before + k), bid_in(table, k));
-        if fault.is_some() {
-            return fault;
-        }
+        check_bid(zones, 7 + 7 * (before + k), bid_in(table, k))?;
     }
-    None
+    Ok(())
 }
 
 // The first rule that one of a table's lines breaks, which stand behind so many bids.
-fn check_all_lines(zones: u64, bids: usize, table: &[u64]) -> Option<Refusal>
+fn check_all_lines(zones: u64, bids: usize, table: &[u64]) -> Result<(), Refusal>
     requires { bids + items table.now ≤ 3000 }
-    ensures { result ≡ all_lines_fault zones bids (lines_in table.now) }
+    ensures { result_err result ≡ all_lines_fault zones bids (lines_in table.now) }
 {
     for k in 0..table.len() / 3 {
-        let fault = check_line(zones, 7 + 7 * bids + 5 * k, line_in(table, k));
-        if fault.is_some() {
-            return fault;
-        }
+        check_line(zones, 7 + 7 * bids + 5 * k, line_in(table, k))?;
     }
-    None
+    Ok(())
 }
 
 // The rules on the counts and the lengths of tables.
-fn check_layout(t: Tables) -> Option<Refusal>
-    ensures { result ≡ layout_fault t.entry.zones t.entry.buys.now t.entry.sells.now t.entry.lines.now }
+fn check_layout(t: Tables) -> Result<(), Refusal>
+    ensures { result_err result ≡ layout_fault t.entry.zones t.entry.buys.now t.entry.sells.now t.entry.lines.now }
 {
-    let fault = check_counts(
-        t.zones,
-        (t.buys.len() / 3) as u64,
-        (t.sells.len() / 3) as u64,
-        (t.lines.len() / 3) as u64,
-    );
-    if fault.is_some() {
-        return fault;
-    }
-    let fault = check_table(t.buys);
-    if fault.is_some() {
-        return fault;
-    }
-    let fault = check_table(t.sells);
-    if fault.is_some() {
-        return fault;
-    }
+    let buys = t.buys.len() / 3;
+    let sells = t.sells.len() / 3;
+    let lines = t.lines.len() / 3;
+    check_counts(t.zones, buys as u64, sells as u64, lines as u64)?;
+    check_table(t.buys)?;
+    check_table(t.sells)?;
     check_table(t.lines)
 }
 
 // The first slice that is too short, of those that hold a result and of the work slice.
-fn check_slices(t: Tables, has: Lengths, work: usize) -> Option<Refusal>
+fn check_slices(t: Tables, has: Lengths, work: usize) -> Result<(), Refusal>
     requires { Small t.buys.now t.sells.now t.lines.now }
-    ensures { result ≡ slices_fault t.entry.zones t.entry.buys.now t.entry.sells.now t.entry.lines.now has work }
+    ensures { result_err result ≡ slices_fault t.entry.zones t.entry.buys.now t.entry.sells.now t.entry.lines.now has work }
 {
     let buys = t.buys.len() / 3;
     let sells = t.sells.len() / 3;
@@ -87,43 +70,28 @@ fn check_slices(t: Tables, has: Lengths, work: usize) -> Option<Refusal>
         flow: lines,
         prices: t.zones as usize,
     };
-    let fault = check_results(has, needed);
-    if fault.is_some() {
-        return fault;
-    }
+    check_results(has, needed)?;
     check_lent(5, work, 64 * (buys + sells + lines))
 }
 
 // The first rule that a bid or a line breaks, of tables that are not too long.
-fn check_items(t: Tables) -> Option<Refusal>
+fn check_items(t: Tables) -> Result<(), Refusal>
     requires { Small t.buys.now t.sells.now t.lines.now }
-    ensures { result ≡ item_fault (market_given t.entry) }
+    ensures { result_err result ≡ item_fault (market_given t.entry) }
 {
     let buys = t.buys.len() / 3;
     let sells = t.sells.len() / 3;
-    let fault = check_bids(t.zones, 0, t.buys);
-    if fault.is_some() {
-        return fault;
-    }
-    let fault = check_bids(t.zones, buys, t.sells);
-    if fault.is_some() {
-        return fault;
-    }
+    check_bids(t.zones, 0, t.buys)?;
+    check_bids(t.zones, buys, t.sells)?;
     check_all_lines(t.zones, buys + sells, t.lines)
 }
 
 // The first rule that tables and lent slices break.
-fn tables_refusal(t: Tables, has: Lengths, work: usize) -> Option<Refusal>
-    ensures { result ≡ tables_fault t.entry.zones t.entry.buys.now t.entry.sells.now t.entry.lines.now has work }
+fn check_tables(t: Tables, has: Lengths, work: usize) -> Result<(), Refusal>
+    ensures { result_err result ≡ tables_fault t.entry.zones t.entry.buys.now t.entry.sells.now t.entry.lines.now has work }
 {
-    let fault = check_layout(t);
-    if fault.is_some() {
-        return fault;
-    }
-    let fault = check_slices(t, has, work);
-    if fault.is_some() {
-        return fault;
-    }
+    check_layout(t)?;
+    check_slices(t, has, work)?;
     check_items(t)
 }
 
@@ -161,9 +129,7 @@ pub fn clear<'a>(
         flow: flow.len(),
         prices: price.len(),
     };
-    if let Some(refusal) = tables_refusal(t, has, work.len()) {
-        return Err(refusal);
-    }
+    check_tables(t, has, work.len())?;
     let items = buys.len() / 3 + sells.len() / 3 + lines.len() / 3;
     let work = &mut work[0..64 * items];
     Ok(clear_tables(t, bought, sold, flow, price, work))

@@ -1,4 +1,5 @@
 use Rattle.std.proofs.Common.{ℕ, List, sym, ap, ◌∙◌, arith}
+use Rattle.std.specs.Result.{result_err}
 use Rattle.hour.proofs.Kept.{kept}
 use Rattle.hour.specs.Bytes.{byte, two, market_of}
 use Rattle.ledger.proofs.Booked.{promised_in, closed_in, same_market}
@@ -9,7 +10,7 @@ pub clear_and_book-requires : goal.clear_and_book-requires
 clear_and_book-requires c =
     let a = c.args in
     let hour = c.of-hour.result in
-    let none = sym c.in_default.ensures in
+    let none = sym c.check_hour.ensures ∙ ap result_err c.in_ok-check_hour.was in
     let buys = hour.buys_said ∙ ap (λ (bs : List ℕ). two bs 1) c.of-hour.ensures in
     let sells = hour.sells_said ∙ ap (λ (bs : List ℕ). two bs 3) c.of-hour.ensures in
     let lines = hour.lines_said ∙ ap (λ (bs : List ℕ). two bs 5) c.of-hour.ensures in
@@ -44,12 +45,12 @@ clear_and_book-requires c =
 pub returns : goal.returns
 returns c =
     let bytes = c.args.bytes.now in
-    let none = sym c.in_default.ensures in
+    let none = sym c.check_hour.ensures ∙ ap result_err c.in_ok-check_hour.was in
     let rules = kept bytes (taken_hour bytes _ none) in
     let done = same_market _ bytes c.of-hour.ensures _ _ _ c.clear_and_book.ensures in
     let promised = promised_in (market_of bytes) rules _ _ _ done in
     record {
-      refusal = c.in_default.ensures;
+      refusal = sym none;
       carried_out = promised.feasible;
       settled = promised.settled;
       lowest = promised.lowest;

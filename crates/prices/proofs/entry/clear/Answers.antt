@@ -1,4 +1,5 @@
-use Rattle.std.proofs.Common.{sym}
+use Rattle.std.proofs.Common.{sym, ap, ◌∙◌}
+use Rattle.std.specs.Result.{result_err}
 use Rattle.prices.proofs.Bounds.{proper_kept}
 use Rattle.prices.proofs.Entries.{wiped_front}
 use Rattle.prices.proofs.Promised.{found_promised}
@@ -8,7 +9,7 @@ use Rattle.prices.proofs.entry.clear.Goals as goal
 pub clear_tables-requires : goal.clear_tables-requires
 clear_tables-requires c =
     let a = c.args in
-    let none = sym c.in_default.ensures in
+    let none = sym c.check_tables.ensures ∙ ap result_err c.in_ok-check_tables.was in
     record {
       kept = tables_kept a.zones a.buys.now a.sells.now a.lines.now _ _ none;
       room =
@@ -20,10 +21,10 @@ pub returns : goal.returns
 returns c =
     let a = c.args in
     let done = c.clear_tables.ensures in
-    let none = sym c.in_default.ensures in
+    let none = sym c.check_tables.ensures ∙ ap result_err c.in_ok-check_tables.was in
     let kept = tables_kept a.zones a.buys.now a.sells.now a.lines.now _ _ none in
     record {
-      refusal = c.in_default.ensures;
+      refusal = sym none;
       found = done.found;
       promised = found_promised _ _ _ _ (proper_kept _ kept) done.found;
       bought = done.bought;
