@@ -1,9 +1,8 @@
 -- What is published of an hour that is cleared in slices just long enough, or refused. Assumes nothing.
-use Rattle.std.proofs.Common.{◌≡◌, ℕ, ◌+◌, List, [], ◌∷◌, length, Some, None, Ok, Option, ap, ◌∙◌, subst, arith}
-use mathlib.Core.Path.{subst⁻¹}
-use Rattle.std.proofs.lemmas.List.{take_all}
+use Rattle.std.proofs.Common.{◌≡◌, ℕ, ◌+◌, ◌*◌, List, [], ◌∷◌, ◌++◌, length, take, drop, Some, None, Ok, Option, sym, ap, ◌∙◌, subst, arith}
+use Rattle.std.proofs.lemmas.List.{take_all, take-append-le}
 use Rattle.hour.proofs.Heads.{head_read_ok}
-use Rattle.hour.proofs.Kept.{buys_count, sells_count, lines_count}
+use Rattle.hour.proofs.Kept.{kept, buys_count, sells_count, lines_count}
 use Rattle.hour.specs.Bytes.{head_read, market_of, refusal_of}
 use Rattle.hour.specs.Market.{Market, Outcome}
 use Rattle.hour.specs.Rules.{KeepsRules}
@@ -19,9 +18,9 @@ use Rattle.ledger.proofs.Booked.{payable_found}
 use Rattle.ledger.proofs.Even.{ledger_even}
 use Rattle.ledger.proofs.Faults.{slices_enough, refusal_enough}
 use Rattle.ledger.specs.Entry.{head_size, slices_fault, hour_fault}
-use Rattle.ledger.specs.Money.{row_count, LedgerOf, Payable}
-use Rattle.ledger.specs.Published.{ClearedText, PublishedAs, Published, LentFor}
-use Rattle.ledger.specs.Text.{Room, counts_of, result_of}
+use Rattle.ledger.specs.Money.{LedgerOf, Payable}
+use Rattle.ledger.specs.Published.{ClearedText, PublishedAs, Published}
+use Rattle.ledger.specs.Text.{result_of}
 
 pub refused_published :
     (bs : List ℕ) (refusal : Refusal) (text : List ℕ) → Some refusal ≡ refusal_of bs → text ≡ row (refused refusal ∷ []) →
@@ -33,6 +32,15 @@ pub cleared_published :
     (bs text : List ℕ) → None ≡ refusal_of bs → ClearedText (market_of bs) text → Published bs text
 cleared_published bs text none cleared =
     subst (λ (o : Option Refusal). PublishedAs o (market_of bs) text) none cleared
+
+-- six slices that are just as long as an hour with the head h needs
+pub record LentFor (h : Head) (bought sold flow price ledger work : List ℕ) : Type 0 where
+  pub bought_long : length bought ≡ h.buys
+  pub sold_long : length sold ≡ h.sells
+  pub flow_long : length flow ≡ h.lines
+  pub price_long : length price ≡ h.zones
+  pub ledger_long : length ledger ≡ head_size h + 3
+  pub work_long : length work ≡ 64 * head_size h
 
 -- where enough is lent, what is refused is the hour
 module _ (bs bought sold flow price ledger work : List ℕ) (head : Head) (read : head_read bs ≡ Ok head) where
@@ -61,28 +69,6 @@ module _ (bs bought sold flow price ledger work : List ℕ) (head : Head) (read 
         price_long = omega (arith, ep, lent.price_long, ap (λ (h : Head). h.zones) same);
       }
 
-  pub ledger_lent :
-      LentFor head bought sold flow price ledger work → (l : List ℕ) → length l ≡ length ledger →
-      length l ≡ row_count (market_of bs) + 3
-  ledger_lent lent l el =
-      let same = ap head_size (head_read_ok bs head read).1 in
-      omega (arith, el, lent.ledger_long, same, buys_count bs, sells_count bs, lines_count bs)
-
--- what the text of an outcome asks for
-pub record Bookable (m : Market) (o : Outcome) (ps l : List ℕ) : Type 0 where
-  pub room : Room (counts_of m) ps o l
-  pub payable : Payable m o ps
-  pub booked : LedgerOf m o ps l
-
-pub bookable_by :
-    (bs cs : List ℕ) → cs ≡ bs → (o : Outcome) (ps l : List ℕ) → Bookable (market_of bs) o ps l → Bookable (market_of cs) o ps l
-bookable_by bs cs same o ps l books = subst⁻¹ (λ (xs : List ℕ). Bookable (market_of xs) o ps l) same books
-
-pub text_by :
-    (bs cs : List ℕ) → cs ≡ bs → (o : Outcome) (ps : List ℕ) (n : ℕ) (text : List ℕ) →
-    text ≡ result_of (market_of cs) o ps n → text ≡ result_of (market_of bs) o ps n
-text_by bs cs same o ps n text is = is ∙ ap (λ (xs : List ℕ). result_of (market_of xs) o ps n) same
-
 -- what was found and booked, in slices that are just long enough
 module _
     (m : Market) (rules : KeepsRules m) (b s f p l : List ℕ) (fitted : Fitted m b s f p) (n : ℕ)
@@ -98,22 +84,13 @@ module _
     all_prices : prices_in m p ≡ p
     all_prices = take_all m.zones p (omega (arith, fitted.price_long))
 
-    pub bookable : length l ≡ row_count m + 3 → Bookable m (outcome_in b s f) p l
-    bookable long =
-        record {
-          room =
-              record {
-                prices = omega (arith, fitted.price_long);
-                bought = omega (arith, fitted.bought_long);
-                sold = omega (arith, fitted.sold_long);
-                flow = omega (arith, fitted.flow_long);
-                ledger = omega arith;
-              };
-          payable = payable_found m rules b s f p n found;
-          booked =
-              subst (λ (o : Outcome). LedgerOf m o p l) whole
-              (subst (λ (ps : List ℕ). LedgerOf m (result_in m b s f) ps l) all_prices booked);
-        }
+    pub payable_whole : Payable m (outcome_in b s f) p
+    payable_whole = payable_found m rules b s f p n found
+
+    pub booked_whole : LedgerOf m (outcome_in b s f) p l
+    booked_whole =
+        subst (λ (o : Outcome). LedgerOf m o p l) whole
+        (subst (λ (ps : List ℕ). LedgerOf m (result_in m b s f) ps l) all_prices booked)
 
     found_whole : Found m n (outcome_in b s f) p
     found_whole = subst (λ (o : Outcome). Found m n o p) whole (subst (λ (ps : List ℕ). Found m n (result_in m b s f) ps) all_prices found)
@@ -130,3 +107,30 @@ module _
           even = ledger_even m _ _ (proper_kept m rules) promised.feasible promised.settled;
           text_is = is;
         }
+
+-- a slice that is read again once it was lent and came back as ys
+pub lent_read :
+    (n k : ℕ) (xs ys zs : List ℕ) → zs ≡ take n (ys ++ drop k xs) → length ys ≡ n → zs ≡ ys
+lent_read n k xs ys zs is long =
+    is ∙ take-append-le n ys (drop k xs) (omega arith) ∙ take_all n ys (omega arith)
+
+-- what is shown of an hour that was cleared in such slices, which hold b, s, f, p and l and are read under other names
+pub record Shown (bs cs b s f p l : List ℕ) (n : ℕ) : Type 0 where
+  pub payable : Payable (market_of cs) (outcome_in b s f) p
+  pub booked : LedgerOf (market_of cs) (outcome_in b s f) p l
+  pub says : (text : List ℕ) → text ≡ result_of (market_of cs) (outcome_in b s f) p n → Published bs text
+
+pub shown :
+    {bs b s f p l cs b' s' f' p' l' : List ℕ} {n : ℕ} → None ≡ refusal_of bs → Fitted (market_of bs) b s f p →
+    Found (market_of bs) n (result_in (market_of bs) b s f) (prices_in (market_of bs) p) →
+    LedgerOf (market_of bs) (result_in (market_of bs) b s f) (prices_in (market_of bs) p) l → cs ≡ bs → b' ≡ b → s' ≡ s →
+    f' ≡ f → p' ≡ p → l' ≡ l → Shown bs cs b' s' f' p' l' n
+shown {bs} {b} {s} {f} {p} {l} {n = n} none fitted found booked bytes bought sold flow price ledger =
+    let rules = kept bs (sym none) in
+    let m = market_of bs in
+    rw (bytes, bought, sold, flow, price, ledger)
+    record {
+      payable = payable_whole m rules b s f p l fitted n found booked;
+      booked = booked_whole m rules b s f p l fitted n found booked;
+      says = λ text is. cleared_published bs text none (cleared_whole m rules b s f p l fitted n found booked text is);
+    }

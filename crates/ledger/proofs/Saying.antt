@@ -1,5 +1,6 @@
 -- The rows of a sort as a loop writes them; the text of a ledger has every money by its definition. Assumes nothing.
-use Rattle.std.proofs.Common.{◌≡◌, ℕ, zero, suc, ◌+◌, ◌^◌, ◌<◌, List, ◌++◌, ℤ, nat_abs, refl, ap, ◌∙◌, ap₂, arith, w64, to_z, of_z}
+use Rattle.std.proofs.Common.{◌≡◌, ℕ, zero, suc, ◌+◌, ◌^◌, ◌<◌, List, ◌++◌, ℤ, nat_abs, length, take, sym, refl, ap, ◌∙◌, ap₂, append_assoc, zero-add, arith, w64, to_z, of_z}
+use Rattle.std.proofs.lemmas.List.{get_or-take}
 use Rattle.hour.proofs.Rows.{row_added}
 use Rattle.hour.specs.Market.{Market, Outcome, at}
 use Rattle.hour.specs.Rules.{KeepsRules}
@@ -7,29 +8,24 @@ use Rattle.hour.specs.Text.{rows}
 use Rattle.hour.specs.declared.refusals.Sort.{Sort}
 use Rattle.hour.specs.declared.refusals.Sort.TheVariants as sorts
 use Rattle.network.specs.Network.{carried}
-use Rattle.ledger.specs.Money.{item, count, money, first_row, worth_by, LedgerOf, Payable}
+use Rattle.ledger.specs.Money.{market_said, outcome_given, item, count, money, first_row, worth_by, LedgerOf, Payable}
+use Rattle.ledger.specs.Cleared.{LedgerIn}
+use Rattle.ledger.specs.declared.cleared.Cleared.{Cleared}
 use Rattle.ledger.specs.Promises.{TextSays}
-use Rattle.ledger.specs.Text.{Wording, wording, item_row, item_rows, sort_rows, worth_row, zone_rows}
-use Rattle.ledger.specs.Text.{counts_of, text_of, result_of}
-use Rattle.ledger.specs.declared.text.Counts.{Counts}
-use Rattle.ledger.proofs.Limits.{among_item, size_item, worth_small}
+use Rattle.ledger.specs.Text.{Wording, wording, item_row, item_rows, sort_rows, worth_row, zone_row, zone_rows}
+use Rattle.ledger.proofs.Limits.{rules_of, among_item, size_item, worth_small}
 use Rattle.ledger.proofs.Size.{number_back, read_back}
 
--- one more row, and all of them
-module _ (xs l : List ℕ) (first : ℕ) (begin : List ℕ) where
-  pub item_added :
-      (w : Wording) (k : ℕ) (z : ℤ) (before after : List ℕ) → at l (first + k) < 2 ^ 64 → z ≡ to_z w64 (at l (first + k)) →
-      before ≡ begin ++ item_rows w k xs l first →
-      after ≡ before ++ item_row w k (at xs k) (to_z w64 (of_z w64 z)) → after ≡ begin ++ item_rows w (k + 1) xs l first
-  item_added w k z before after fits is so_far adds =
-      row_added (λ j. item_row w j (at xs j) (to_z w64 (at l (first + j)))) begin before after k so_far
-      (adds ∙ ap (λ (d : ℤ). before ++ item_row w k (at xs k) d) (read_back (at l (first + k)) z fits is))
-
-  pub items_all :
-      (w v : Wording) (k n : ℕ) (bs : List ℕ) → w ≡ v → k ≡ n → bs ≡ begin ++ item_rows w k xs l first →
-      bs ≡ begin ++ item_rows v n xs l first
-  items_all w v k n bs same all so_far =
-      so_far ∙ ap₂ (λ (u : Wording) (j : ℕ). begin ++ item_rows u j xs l first) same all
+-- one more row of a sort
+pub item_added :
+    (xs l begin : List ℕ) (w : Wording) (k : ℕ) (z : ℤ) (before after : List ℕ) → at l k < 2 ^ 64 →
+    z ≡ to_z w64 (at l k) → before ≡ begin ++ item_rows w k xs l 0 →
+    after ≡ before ++ item_row w k (at xs k) (to_z w64 (of_z w64 z)) → after ≡ begin ++ item_rows w (k + 1) xs l 0
+item_added xs l begin w k z before after fits is so_far adds =
+    row_added (λ j. item_row w j (at xs j) (to_z w64 (at l (0 + j)))) begin before after k so_far
+    (adds
+    ∙ ap (λ (d : ℤ). before ++ item_row w k (at xs k) d)
+    (read_back (at l k) z fits is ∙ ap (λ (j : ℕ). to_z w64 (at l j)) (sym (zero-add k))))
 
 pub rows_same : (n : ℕ) (f g : ℕ → List ℕ) → ((k : ℕ) → k < n → f k ≡ g k) → rows n f ≡ rows n g
 rows_same zero f g same = refl
@@ -59,13 +55,35 @@ text_says m o ps l pushes rules pay kept =
     (rows_say m o ps l rules pay kept sorts.Sell))
     (rows_say m o ps l rules pay kept sorts.Line)
 
--- the same where the code has counted the items and has what the outcome is worth
-pub hour_says :
-    (m : Market) (o : Outcome) (ps l : List ℕ) (pushes : ℕ) (n : Counts) (z : ℤ) → KeepsRules m → Payable m o ps →
-    LedgerOf m o ps l → n ≡ counts_of m → z ≡ worth_by m o →
-    text_of n pushes (to_z w64 (of_z w64 z)) ps o l ≡ result_of m o ps pushes
-hour_says m o ps l pushes n z rules pay kept counted is =
-    let small = (worth_small m o rules pay.feasible).whole in
-    let back = number_back z (omega (arith, ap nat_abs is)) in
-    ap₂ (λ (c : Counts) (w : ℤ). text_of c pushes w ps o l) counted (back ∙ is)
-    ∙ text_says m o ps l pushes rules pay kept
+-- five parts of a text, one behind the other
+pub five_parts :
+    (t₀ t₁ t₂ t₃ t₄ t₅ w z b s l W Z B S L : List ℕ) → t₁ ≡ t₀ ++ w → t₂ ≡ t₁ ++ z → t₃ ≡ t₂ ++ b → t₄ ≡ t₃ ++ s →
+    t₅ ≡ t₄ ++ l → w ≡ W → z ≡ Z → b ≡ B → s ≡ S → l ≡ L → t₅ ≡ t₀ ++ ((((W ++ Z) ++ B) ++ S) ++ L)
+five_parts t₀ t₁ t₂ t₃ t₄ t₅ w z b s l W Z B S L one two three four five w_is z_is b_is s_is l_is =
+    rw (five, four, three, two, one, w_is, z_is, b_is, s_is, l_is) (simp append_assoc)
+
+pub zone_rows_say : (n : ℕ) (ps zs : List ℕ) → length zs ≡ n → zs ≡ take n ps → zone_rows (length zs) zs ≡ zone_rows n ps
+zone_rows_say n ps zs long is =
+    rw long (rows_same n _ _ (λ z h. ap (zone_row z) (ap (λ (xs : List ℕ). at xs z) is ∙ get_or-take n ps z 0 h)))
+
+-- the parts of a cleared hour, each with its front of a list of amounts and its rows of the ledger
+module _ (c : Cleared) (l : List ℕ) (kept : LedgerIn c l) where
+  pub item_rows_say :
+      (s : Sort) (xs ys : List ℕ) → length xs ≡ count (market_said c.hour) s →
+      ((k : ℕ) → k < count (market_said c.hour) s → at xs k ≡ carried (outcome_given c.amounts) (item s k)) →
+      ((k : ℕ) → k < count (market_said c.hour) s → at ys k ≡ at l (first_row (market_said c.hour) s + k)) →
+      item_rows (wording s) (length xs) xs ys 0
+      ≡ sort_rows (market_said c.hour) (outcome_given c.amounts) c.prices.now s
+  item_rows_say s xs ys long amounts rows =
+      rw long (rows_same (count (market_said c.hour) s) _ _
+      (λ k h.
+      ap₂ (item_row (wording s) k) (amounts k h)
+      (ap (λ (j : ℕ). to_z w64 (at ys j)) (zero-add k) ∙ ap (to_z w64) (rows k h)
+      ∙ money_read (market_said c.hour) (outcome_given c.amounts) c.prices.now l (rules_of c.hour) c.payable kept s k h)))
+
+  pub worth_says :
+      (z : ℤ) (n : ℕ) → z ≡ worth_by (market_said c.hour) (outcome_given c.amounts) →
+      worth_row (to_z w64 (of_z w64 z)) n ≡ worth_row (worth_by (market_said c.hour) (outcome_given c.amounts)) n
+  worth_says z n is =
+      let small = (worth_small (market_said c.hour) (outcome_given c.amounts) (rules_of c.hour) c.payable.feasible).whole in
+      ap (λ (w : ℤ). worth_row w n) (number_back z (omega (arith, ap nat_abs is)) ∙ is)

@@ -1,6 +1,7 @@
 pub mod Money
-pub mod Written
 pub mod Text
+pub mod Cleared
+pub mod Written
 pub mod Promises
 pub mod Entry
 pub mod Published

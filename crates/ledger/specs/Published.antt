@@ -3,15 +3,12 @@
 --   ClearedText m t     t is the text of what is found of the market m: a count of pushes, an outcome and prices with all that is
 --                       promised of them, and money that closes
 --   Published bs t      t is what is published of the bytes bs: the row of their refusal, or the text of the hour that they say
---   LentFor h ..        six slices that are just as long as an hour with the head h needs
-use Rattle.std.specs.Prelude.{◌≡◌, ℕ, ◌+◌, ◌*◌, List, [], ◌∷◌, length, Some, None, Option}
+use Rattle.std.specs.Prelude.{◌≡◌, ℕ, List, [], ◌∷◌, Some, None, Option}
 use Rattle.hour.specs.Bytes.{market_of, refusal_of}
 use Rattle.hour.specs.Market.{Market, Outcome}
 use Rattle.hour.specs.Text.{row, refused}
-use Rattle.hour.specs.declared.reading.Head.{Head}
 use Rattle.hour.specs.declared.refusals.Refusal.{Refusal}
 use Rattle.prices.specs.Found.{Found, Promised}
-use Rattle.ledger.specs.Entry.{head_size}
 use Rattle.ledger.specs.Promises.{Evens}
 use Rattle.ledger.specs.Text.{result_of}
 
@@ -30,11 +27,3 @@ PublishedAs None m text = ClearedText m text
 
 abbrev pub Published : List ℕ → List ℕ → Type 0
 Published bs text = PublishedAs (refusal_of bs) (market_of bs) text
-
-pub record LentFor (h : Head) (bought sold flow price ledger work : List ℕ) : Type 0 where
-  pub bought_long : length bought ≡ h.buys
-  pub sold_long : length sold ≡ h.sells
-  pub flow_long : length flow ≡ h.lines
-  pub price_long : length price ≡ h.zones
-  pub ledger_long : length ledger ≡ head_size h + 3
-  pub work_long : length work ≡ 64 * head_size h

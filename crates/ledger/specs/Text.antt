@@ -7,12 +7,11 @@
 --   wording s              the words of a sort
 --   item_rows w n xs l i   n of them, with amounts in xs and money in the rows of the ledger l from i on
 --   text_of n ..           all rows: the worth, the zones, the buys, the sells and the lines, so many as n says
---   Room n ..              the lists have all that so many rows need
 --   counts_of m            how many of each a market has
 --   result_of m o ps n     the same text in words of the market: each amount, each money, what the outcome is worth
 --
 -- A ledger has the two's complement of a money; the text has its decimal with a sign.
-use Rattle.std.specs.Prelude.{ℕ, ◌+◌, ◌≤◌, List, [], ◌∷◌, ◌++◌, length, ℤ, codes, decimal}
+use Rattle.std.specs.Prelude.{ℕ, ◌+◌, List, [], ◌∷◌, ◌++◌, length, ℤ, codes, decimal}
 use Rattle.std.specs.Int.{w64}
 use Rattle.std.proofs.Common.{to_z}
 use Rattle.std.specs.Fmt.{signed_decimal}
@@ -23,8 +22,6 @@ use Rattle.hour.specs.declared.refusals.Sort.TheVariants as sorts
 use Rattle.network.specs.Network.{carried}
 use Rattle.ledger.specs.Money as ledger
 use Rattle.ledger.specs.Money.{item, count, worth_by}
-use Rattle.ledger.specs.declared.text.Counts.{Counts}
-use Rattle.ledger.specs.declared.text.Words.{Words}
 
 pub record Wording : Type 0 where
   pub sort : List ℕ
@@ -35,10 +32,6 @@ abbrev pub wording : Sort → Wording
 wording sorts.Buy = record { sort = codes "buy"; has = codes "has"; pays = codes "pays" }
 wording sorts.Sell = record { sort = codes "sell"; has = codes "has"; pays = codes "gets" }
 wording sorts.Line = record { sort = codes "line"; has = codes "carries"; pays = codes "earns" }
-
--- the same where the code has them
-abbrev pub worded : Words → Wording
-worded w = record { sort = w.sort.now; has = w.has.now; pays = w.pays.now }
 
 abbrev pub worth_row : ℤ → ℕ → List ℕ
 worth_row w n = row (codes "worth" ∷ signed_decimal w ∷ codes "pushes" ∷ decimal n ∷ [])
@@ -55,6 +48,13 @@ zone_rows n ps = rows n (λ z. zone_row z (at ps z))
 abbrev pub item_rows : Wording → ℕ → List ℕ → List ℕ → ℕ → List ℕ
 item_rows w n xs l i = rows n (λ k. item_row w k (at xs k) (to_z w64 (at l (i + k))))
 
+-- how many of each there are
+pub record Counts : Type 0 where
+  pub zones : ℕ
+  pub buys : ℕ
+  pub sells : ℕ
+  pub lines : ℕ
+
 abbrev pub text_of : Counts → ℕ → ℤ → List ℕ → Outcome → List ℕ → List ℕ
 text_of n pushes worth ps o l =
     worth_row worth pushes
@@ -62,14 +62,6 @@ text_of n pushes worth ps o l =
     ++ item_rows (wording sorts.Buy) n.buys o.bought l 0
     ++ item_rows (wording sorts.Sell) n.sells o.sold l n.buys
     ++ item_rows (wording sorts.Line) n.lines o.flow l (n.buys + n.sells)
-
--- a price for each zone, an amount for each bid and line, and a row of the ledger
-pub record Room (n : Counts) (ps : List ℕ) (o : Outcome) (l : List ℕ) : Type 0 where
-  pub prices : n.zones ≤ length ps
-  pub bought : n.buys ≤ length o.bought
-  pub sold : n.sells ≤ length o.sold
-  pub flow : n.lines ≤ length o.flow
-  pub ledger : n.buys + n.sells + n.lines ≤ length l
 
 abbrev pub counts_of : Market → Counts
 counts_of m =

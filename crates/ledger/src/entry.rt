@@ -8,7 +8,7 @@ ghost use Rattle.ledger.specs.Entry.{slices_fault, hour_fault, CarriedOut, Settl
 ghost use Rattle.ledger.specs.Entry.{BestWorth, Booked, Closed, Counted, ClearedIn, slices};
 ghost use Rattle.ledger.specs.Money.{market_said, row_count};
 
-use crate::rows::write_ledger;
+use crate::cleared::Cleared;
 use hour::{Head, Hour, Lengths, Refusal, check_items, check_lent, check_results, read_head};
 use network::Amounts;
 use prices::clear_lent;
@@ -62,12 +62,16 @@ fn clear_and_book(
 {
     let items = hour.buys() + hour.sells() + hour.lines();
     let pushes = clear_lent(hour, bought, sold, flow, price, &mut work[0..64 * items]);
-    let o = Amounts {
-        bought: &*bought,
-        sold: &*sold,
-        flow: &*flow,
+    let cleared = Cleared {
+        hour,
+        amounts: Amounts {
+            bought: &*bought,
+            sold: &*sold,
+            flow: &*flow,
+        },
+        prices: &*price,
     };
-    write_ledger(hour, o, price, ledger);
+    cleared.write_ledger(ledger);
     pushes
 }
 

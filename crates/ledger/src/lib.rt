@@ -1,6 +1,7 @@
 // The ledger of an hour: who pays what, who gets what, and what the lines earn.
 #![tactic(auto)]
 
+mod cleared;
 mod entry;
 mod money;
 pub mod promises;
@@ -10,7 +11,6 @@ mod text;
 mod worth;
 
 pub use entry::clear;
-pub use money::{amount_of, price_above, price_below};
+pub use money::{amount_of, item_of, price_above, price_below};
 pub use publish::published;
-pub use rows::item_of;
 pub use worth::worth_in;

@@ -2,10 +2,22 @@
 ghost use Rattle.std.specs.Prelude.{◌≡◌, ◌≤◌};
 ghost use Rattle.hour.specs.Rules.{max_price, max_amount};
 ghost use Rattle.network.specs.Network.{Among, carried};
-ghost use Rattle.ledger.specs.Money.{market_said, outcome_given, above, base, owed, money, asked, Payable};
+ghost use Rattle.ledger.specs.Money.{market_said, outcome_given, above, base, owed, asked, item};
+ghost use Rattle.ledger.specs.Cleared.{money_in};
 
-use hour::{Hour, ZERO_PRICE};
+use crate::cleared::Cleared;
+use hour::{Hour, Sort, ZERO_PRICE};
 use network::{Amounts, Item, number_at};
+
+pub fn item_of(sort: Sort, k: usize) -> Item
+    ensures { result ≡ item sort k }
+{
+    match sort {
+        Sort::Buy => Item::Buy(k),
+        Sort::Sell => Item::Sell(k),
+        Sort::Line => Item::Line(k),
+    }
+}
 
 // So many units at one price less another.
 fn owed(above: u64, base: u64, amount: u64) -> i64
@@ -48,18 +60,6 @@ pub fn amount_of(o: Amounts<'_>, item: Item) -> u64
     }
 }
 
-pub fn money_of(hour: Hour<'_>, o: Amounts<'_>, prices: &[u64], item: Item) -> i64
-    requires among { Among (market_said hour) item }
-    requires payable { Payable (market_said hour) (outcome_given o) prices.now }
-    ensures { result ≡ money (market_said hour.entry) (outcome_given o.entry) prices.now item }
-{
-    owed(
-        price_above(hour, prices, item),
-        price_below(hour, prices, item),
-        amount_of(o, item),
-    )
-}
-
 // The price that a bid has itself; a line has none.
 pub fn price_asked(hour: Hour<'_>, item: Item) -> u64
     requires { Among (market_said hour) item }
@@ -69,5 +69,18 @@ pub fn price_asked(hour: Hour<'_>, item: Item) -> u64
         Item::Buy(k) => hour.buy(k).price,
         Item::Sell(k) => hour.sell(k).price,
         Item::Line(_) => 0,
+    }
+}
+
+impl Cleared<'_, '_, '_> {
+    pub fn money_of(self, item: Item) -> i64
+        requires { Among (market_said self.hour) item }
+        ensures { result ≡ money_in self.entry item }
+    {
+        owed(
+            price_above(self.hour, self.prices, item),
+            price_below(self.hour, self.prices, item),
+            amount_of(self.amounts, item),
+        )
     }
 }

@@ -1,20 +1,15 @@
 // What is published of an hour, from its bytes to its text.
-ghost use Rattle.std.specs.Prelude.{◌≡◌, [], ◌∷◌, IfOk, Ok, vec_len, string_bytes};
+ghost use Rattle.std.specs.Prelude.{◌≡◌, [], ◌∷◌, IfOk, Ok, string_bytes};
 ghost use Rattle.hour.specs.Bytes.{head_read};
 ghost use Rattle.hour.specs.Text.{row, refused};
-ghost use Rattle.ledger.specs.Published.{Published, LentFor};
+ghost use Rattle.ledger.specs.Published.{Published};
 
+use crate::cleared::Cleared;
 use crate::entry::clear;
-use crate::text::hour_text;
+use crate::text::result_text;
 use hour::{Head, Hour, Refusal, read_head};
 use network::Amounts;
 use std::alloc::{AllocError, Global};
-
-fn zeros(heap: Global, n: usize) -> Result<Vec<u64>, AllocError>
-    ensures { IfOk result (λ v. vec_len v ≡ n) }
-{
-    vec![in heap; 0u64; n]
-}
 
 fn refusal_row(heap: Global, refusal: Refusal) -> Result<String, AllocError>
     ensures { IfOk result (λ t. string_bytes t ≡ row (refused refusal ∷ [])) }
@@ -23,30 +18,39 @@ fn refusal_row(heap: Global, refusal: Refusal) -> Result<String, AllocError>
 }
 
 // The text of an hour whose head is sound, cleared in slices that are just long enough.
-fn cleared_text(
-    heap: Global,
-    bytes: &[u8],
-    head: Head,
-    bought: &mut [u64],
-    sold: &mut [u64],
-    flow: &mut [u64],
-    price: &mut [u64],
-    ledger: &mut [u64],
-    work: &mut [u64],
-) -> Result<String, AllocError>
-    requires head { head_read bytes.now ≡ Ok head }
-    requires lent { LentFor head bought.old sold.old flow.old price.old ledger.old work.old }
+fn cleared_text(heap: Global, bytes: &[u8], head: Head) -> Result<String, AllocError>
+    requires { head_read bytes.now ≡ Ok head }
     ensures { IfOk result (λ t. Published bytes.now (string_bytes t)) }
 {
-    match clear(bytes, bought, sold, flow, price, ledger, work) {
+    let items = (head.buys + head.sells + head.lines) as usize;
+    let mut bought = vec![in heap; 0u64; head.buys as usize]?;
+    let mut sold = vec![in heap; 0u64; head.sells as usize]?;
+    let mut flow = vec![in heap; 0u64; head.lines as usize]?;
+    let mut price = vec![in heap; 0u64; head.zones as usize]?;
+    let mut ledger = vec![in heap; 0u64; items + 3]?;
+    let mut work = vec![in heap; 0u64; 64 * items]?;
+    let cleared = clear(
+        bytes,
+        bought.as_mut_slice(),
+        sold.as_mut_slice(),
+        flow.as_mut_slice(),
+        price.as_mut_slice(),
+        ledger.as_mut_slice(),
+        work.as_mut_slice(),
+    );
+    match cleared {
         Err(refusal) => refusal_row(heap, refusal),
         Ok(pushes) => {
-            let o = Amounts {
-                bought: &*bought,
-                sold: &*sold,
-                flow: &*flow,
+            let cleared = Cleared {
+                hour: Hour::of(bytes),
+                amounts: Amounts {
+                    bought: bought.as_slice(),
+                    sold: sold.as_slice(),
+                    flow: flow.as_slice(),
+                },
+                prices: price.as_slice(),
             };
-            hour_text(heap, Hour::of(bytes), pushes, price, o, ledger)
+            result_text(heap, cleared, pushes, ledger.as_slice())
         }
     }
 }
@@ -55,26 +59,8 @@ fn cleared_text(
 pub fn published(heap: Global, bytes: &[u8]) -> Result<String, AllocError>
     ensures { IfOk result (λ t. Published bytes.now (string_bytes t)) }
 {
-    let head = match read_head(bytes) {
-        Ok(head) => head,
-        Err(refusal) => return refusal_row(heap, refusal),
-    };
-    let items = (head.buys + head.sells + head.lines) as usize;
-    let mut bought = zeros(heap, head.buys as usize)?;
-    let mut sold = zeros(heap, head.sells as usize)?;
-    let mut flow = zeros(heap, head.lines as usize)?;
-    let mut price = zeros(heap, head.zones as usize)?;
-    let mut ledger = zeros(heap, items + 3)?;
-    let mut work = zeros(heap, 64 * items)?;
-    cleared_text(
-        heap,
-        bytes,
-        head,
-        bought.as_mut_slice(),
-        sold.as_mut_slice(),
-        flow.as_mut_slice(),
-        price.as_mut_slice(),
-        ledger.as_mut_slice(),
-        work.as_mut_slice(),
-    )
+    match read_head(bytes) {
+        Ok(head) => cleared_text(heap, bytes, head),
+        Err(refusal) => refusal_row(heap, refusal),
+    }
 }

@@ -4,10 +4,19 @@ ghost use Rattle.hour.specs.Market.{Feasible};
 ghost use Rattle.network.specs.Network.{carried};
 ghost use Rattle.ledger.specs.Money.{market_said, outcome_given, item, count, asked, worth_of, worth_by};
 
-use crate::money::{amount_of, price_asked};
-use crate::rows::{count_of, item_of};
+use crate::money::{amount_of, item_of, price_asked};
 use hour::{Hour, Sort};
 use network::Amounts;
+
+fn count_of(hour: Hour<'_>, sort: Sort) -> usize
+    ensures { result ≡ count (market_said hour.entry) sort }
+{
+    match sort {
+        Sort::Buy => hour.buys(),
+        Sort::Sell => hour.sells(),
+        Sort::Line => hour.lines(),
+    }
+}
 
 // The k-th item of a sort at its own price.
 fn item_worth(hour: Hour<'_>, o: Amounts<'_>, sort: Sort, k: usize) -> u64

@@ -1,17 +1,14 @@
 use Rattle.std.proofs.Common.{◌*◌, arith}
 use Rattle.prices.proofs.Entries.{past_same}
 use Rattle.ledger.specs.Money.{market_said, row_count}
-use Rattle.ledger.proofs.Booked.{payable_found, booked_front, behind_kept, wiped_counted}
+use Rattle.ledger.proofs.Booked.{payable_found, booked_front, wiped_counted}
 use Rattle.ledger.proofs.Limits.{rules_of}
 use Rattle.ledger.proofs.entry.clear_and_book.Goals as goal
 
-pub write_ledger-requires : goal.write_ledger-requires
-write_ledger-requires c =
+pub invariant_of-cleared : goal.invariant_of-cleared
+invariant_of-cleared c =
     let hour = c.args.hour in
-    record {
-      long = omega arith;
-      payable = payable_found (market_said hour) (rules_of hour) _ _ _ _ _ c.clear_lent-pushes.ensures.found;
-    }
+    record { payable = payable_found (market_said hour) (rules_of hour) _ _ _ _ _ c.clear_lent-pushes.ensures.found }
 
 pub returns : goal.returns
 returns c =
@@ -24,6 +21,6 @@ returns c =
       sold = past_same hour.sells _ _ _ hour.sells_count done.sold;
       flow = past_same hour.lines _ _ _ hour.lines_count done.flow;
       price = past_same hour.zones _ _ _ hour.zones_said done.price;
-      ledger = behind_kept _ _ _ c.write_ledger.auto.ledger c.write_ledger.ensures.behind;
+      ledger = c.write_ledger.ensures.behind;
       work = wiped_counted (64 * row_count (market_said hour)) _ _ _ (omega arith) (omega arith) done.work;
     }

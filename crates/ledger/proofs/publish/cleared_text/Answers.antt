@@ -1,52 +1,49 @@
-use Rattle.std.proofs.Common.{sym, ◌∙◌}
+use Rattle.std.proofs.Common.{length, ◌∙◌, refl, string_bytes, arith, rules}
 use Rattle.std.proofs.lemmas.Result.{IfOk-weaker}
-use Rattle.hour.proofs.Kept.{kept}
-use Rattle.hour.specs.Bytes.{market_of}
-use Rattle.ledger.proofs.Publishing.{refused_published, cleared_published, refusal_lent, fitted_lent, ledger_lent}
-use Rattle.ledger.proofs.Publishing.{bookable, bookable_by, text_by, cleared_whole}
+use Rattle.ledger.proofs.Publishing.{LentFor, refusal_lent, fitted_lent, lent_read, shown}
 use Rattle.ledger.proofs.publish.cleared_text.Goals as goal
 
-pub hour_text-requires : goal.hour_text-requires
-hour_text-requires c =
-    let a = c.args in
-    let bytes = a.bytes.now in
+pub invariant_of-cleared : goal.invariant_of-cleared
+invariant_of-cleared c =
     let done = c.in-Ok.ensures in
-    let all = c.clear.auto in
-    let none = done.refusal ∙ refusal_lent bytes _ _ _ _ _ _ a.head c.requires.head c.requires.lent in
-    let fitted =
-    fitted_lent bytes _ _ _ _ _ _ a.head c.requires.head c.requires.lent _ _ _ _
-    all.bought all.sold all.flow all.price
-    in
-    let books =
-    bookable_by bytes _ c.of.ensures _ _ _
-    (bookable (market_of bytes) (kept bytes (sym none)) _ _ _ _ _ fitted _ done.found done.rows
-    (ledger_lent bytes _ _ _ _ _ _ a.head c.requires.head c.requires.lent _ all.ledger))
-    in
-    record { room = books.room; payable = books.payable; ledger = books.booked }
+    let all = c.clear-cleared.auto in
+    let new = c.clear-cleared.new in
+    let lent : LentFor c.args.head c.as_mut_slice.result.now c.as_mut_slice-2.result.now c.as_mut_slice-3.result.now
+    c.as_mut_slice-4.result.now c.as_mut_slice-5.result.now c.as_mut_slice-6.result.now = search rules in
+    let there = shown
+    (done.refusal ∙ refusal_lent c.args.bytes.now _ _ _ _ _ _ c.args.head c.requires lent)
+    (fitted_lent c.args.bytes.now _ _ _ _ _ _ c.args.head c.requires lent _ _ _ _ all.bought all.sold all.flow all.price)
+    done.found done.rows c.of.ensures (lent_read _ (length new.bought) c.in_ok-bought.bought.items _ _ c.as_slice.ensures.value (omega arith))
+    (lent_read _ (length new.sold) c.in_ok-sold.sold.items _ _ c.as_slice-in-Ok.ensures.value (omega arith)) (lent_read _ (length new.flow) c.in_ok-flow.flow.items _ _ c.as_slice-in-Ok-2.ensures.value (omega arith))
+    (lent_read _ (length new.price) c.in_ok-price.price.items _ _ c.as_slice-in-Ok-3.ensures.value (omega arith)) refl in
+    record { payable = there.payable }
 
-pub returns-in-Err : goal.returns-in-Err
-returns-in-Err c =
-    let a = c.args in
-    let is =
-    c.in-Err.ensures.refusal
-    ∙ refusal_lent a.bytes.now _ _ _ _ _ _ a.head c.requires.head c.requires.lent
-    in
-    IfOk-weaker c.refusal_row.result _ _ (λ t text. refused_published a.bytes.now _ _ is text) c.refusal_row.ensures
-
-pub returns-in-Ok : goal.returns-in-Ok
-returns-in-Ok c =
-    let a = c.args in
-    let bytes = a.bytes.now in
+pub result_text-requires-clause-ledger : goal.result_text-requires-clause-ledger
+result_text-requires-clause-ledger c =
     let done = c.in-Ok.ensures in
-    let all = c.clear.auto in
-    let none = done.refusal ∙ refusal_lent bytes _ _ _ _ _ _ a.head c.requires.head c.requires.lent in
-    let fitted =
-    fitted_lent bytes _ _ _ _ _ _ a.head c.requires.head c.requires.lent _ _ _ _
-    all.bought all.sold all.flow all.price
-    in
-    IfOk-weaker c.hour_text.result _ _
-    (λ t text.
-    cleared_published bytes _ none
-    (cleared_whole (market_of bytes) (kept bytes (sym none)) _ _ _ _ _ fitted _ done.found done.rows _
-    (text_by bytes _ c.of.ensures _ _ _ _ text)))
-    c.hour_text.ensures
+    let all = c.clear-cleared.auto in
+    let new = c.clear-cleared.new in
+    let lent : LentFor c.args.head c.as_mut_slice.result.now c.as_mut_slice-2.result.now c.as_mut_slice-3.result.now
+    c.as_mut_slice-4.result.now c.as_mut_slice-5.result.now c.as_mut_slice-6.result.now = search rules in
+    let there = shown
+    (done.refusal ∙ refusal_lent c.args.bytes.now _ _ _ _ _ _ c.args.head c.requires lent)
+    (fitted_lent c.args.bytes.now _ _ _ _ _ _ c.args.head c.requires lent _ _ _ _ all.bought all.sold all.flow all.price)
+    done.found done.rows c.of.ensures (lent_read _ (length new.bought) c.in_ok-bought.bought.items _ _ c.as_slice.ensures.value (omega arith))
+    (lent_read _ (length new.sold) c.in_ok-sold.sold.items _ _ c.as_slice-in-Ok.ensures.value (omega arith)) (lent_read _ (length new.flow) c.in_ok-flow.flow.items _ _ c.as_slice-in-Ok-2.ensures.value (omega arith))
+    (lent_read _ (length new.price) c.in_ok-price.price.items _ _ c.as_slice-in-Ok-3.ensures.value (omega arith)) (lent_read _ (length new.ledger) c.in_ok-ledger.ledger.items _ _ c.as_slice-in-Ok-4.ensures.value (omega arith)) in
+    there.booked
+
+pub returns : goal.returns
+returns c =
+    let done = c.in-Ok.ensures in
+    let all = c.clear-cleared.auto in
+    let new = c.clear-cleared.new in
+    let lent : LentFor c.args.head c.as_mut_slice.result.now c.as_mut_slice-2.result.now c.as_mut_slice-3.result.now
+    c.as_mut_slice-4.result.now c.as_mut_slice-5.result.now c.as_mut_slice-6.result.now = search rules in
+    let there = shown
+    (done.refusal ∙ refusal_lent c.args.bytes.now _ _ _ _ _ _ c.args.head c.requires lent)
+    (fitted_lent c.args.bytes.now _ _ _ _ _ _ c.args.head c.requires lent _ _ _ _ all.bought all.sold all.flow all.price)
+    done.found done.rows c.of.ensures (lent_read _ (length new.bought) c.in_ok-bought.bought.items _ _ c.as_slice.ensures.value (omega arith))
+    (lent_read _ (length new.sold) c.in_ok-sold.sold.items _ _ c.as_slice-in-Ok.ensures.value (omega arith)) (lent_read _ (length new.flow) c.in_ok-flow.flow.items _ _ c.as_slice-in-Ok-2.ensures.value (omega arith))
+    (lent_read _ (length new.price) c.in_ok-price.price.items _ _ c.as_slice-in-Ok-3.ensures.value (omega arith)) (lent_read _ (length new.ledger) c.in_ok-ledger.ledger.items _ _ c.as_slice-in-Ok-4.ensures.value (omega arith)) in
+    IfOk-weaker c.result_text.result _ _ (λ t. there.says (string_bytes t)) c.result_text.ensures

@@ -1,0 +1,27 @@
+-- What is written of a cleared hour. Assumes nothing: these are definitions.
+--
+--   money_in c i      what an item pays, gets or earns there
+--   LedgerIn c l      l has the money of each item and the three sums
+--   Room c l          a price for each zone, an amount for each bid and line, and a row of l
+--   text_in c n       the text of it, after n pushes
+use Rattle.std.specs.Prelude.{ℕ, ◌≤◌, List, length, ℤ}
+use Rattle.network.specs.declared.arcs.Item.{Item}
+use Rattle.ledger.specs.Money.{market_said, outcome_given, money, row_count, LedgerOf}
+use Rattle.ledger.specs.Text.{result_of}
+use Rattle.ledger.specs.declared.cleared.Cleared.{Cleared}
+
+abbrev pub money_in : Cleared → Item → ℤ
+money_in c i = money (market_said c.hour) (outcome_given c.amounts) c.prices.now i
+
+abbrev pub LedgerIn : Cleared → List ℕ → Type 0
+LedgerIn c l = LedgerOf (market_said c.hour) (outcome_given c.amounts) c.prices.now l
+
+pub record Room (c : Cleared) (l : List ℕ) : Type 0 where
+  pub prices : (market_said c.hour).zones ≤ length c.prices.now
+  pub bought : length (market_said c.hour).buys ≤ length c.amounts.bought.now
+  pub sold : length (market_said c.hour).sells ≤ length c.amounts.sold.now
+  pub flow : length (market_said c.hour).lines ≤ length c.amounts.flow.now
+  pub ledger : row_count (market_said c.hour) ≤ length l
+
+abbrev pub text_in : Cleared → ℕ → List ℕ
+text_in c n = result_of (market_said c.hour) (outcome_given c.amounts) c.prices.now n
