@@ -2,56 +2,38 @@
 ghost use Rattle.ledger.specs.Whole.{OneAnswer, WholePromise, AlwaysCleared, OneText};
 ghost use Rattle.ledger.specs.Promises.{LedgerEven, SumsSmall, OneLedger, WorthSmall, TextSays};
 
-pub fn ledger_even_holds() -> u8
+pub fn ledger_even_holds()
     ensures { LedgerEven }
-{
-    0
-}
+{}
 
-pub fn sums_small_holds() -> u8
+pub fn sums_small_holds()
     ensures { SumsSmall }
-{
-    0
-}
+{}
 
-pub fn one_ledger_holds() -> u8
+pub fn one_ledger_holds()
     ensures { OneLedger }
-{
-    0
-}
+{}
 
-pub fn worth_small_holds() -> u8
+pub fn worth_small_holds()
     ensures { WorthSmall }
-{
-    0
-}
+{}
 
-pub fn text_says_holds() -> u8
+pub fn text_says_holds()
     ensures { TextSays }
-{
-    0
-}
+{}
 
-pub fn one_answer_holds() -> u8
+pub fn one_answer_holds()
     ensures { OneAnswer }
-{
-    0
-}
+{}
 
-pub fn whole_promise_holds() -> u8
+pub fn whole_promise_holds()
     ensures { WholePromise }
-{
-    0
-}
+{}
 
-pub fn always_cleared_holds() -> u8
+pub fn always_cleared_holds()
     ensures { AlwaysCleared }
-{
-    0
-}
+{}
 
-pub fn one_text_holds() -> u8
+pub fn one_text_holds()
     ensures { OneText }
-{
-    0
-}
+{}

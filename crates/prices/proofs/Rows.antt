@@ -1,102 +1,72 @@
 -- Rows of a table, written one after another. Assumes nothing.
-use Rattle.std.proofs.Common.{◌≡◌, ℕ, ◌+◌, ◌*◌, ◌<◌, ◌≤◌, ◌≢◌, List, length, get_or, set, ap, ◌∙◌, inl, inr, arith}
-use Rattle.std.proofs.lemmas.List.{length-set, get_or-set_same, get_or-set_other}
+use Rattle.std.proofs.Common.{◌≡◌, ℕ, ◌+◌, ◌-◌, ◌*◌, ◌<◌, ◌≤◌, List, length, get_or, ap, ◌∙◌, inl, inr, arith, rules}
+use borrow.Rule.Slice.PartMut.{put_mid}
 use Rattle.std.proofs.lemmas.Bool.{cases_lt}
+use Rattle.std.proofs.lemmas.List.{places}
 use Rattle.hour.proofs.ReadBack.{listed_same}
 use Rattle.hour.specs.Market.{bid, line}
 use Rattle.hour.specs.declared.items.Bid.{Bid}
 use Rattle.hour.specs.declared.items.Line.{Line}
 use Rattle.network.specs.Tables.{cell, items, bids_in, lines_in}
-use Rattle.prices.specs.Laid.{row, line_row, LaidBids, LaidLines}
+use Rattle.prices.specs.Laid.{Laid, bid_numbers, line_numbers}
 
-module _ (t : List ℕ) (k a b c : ℕ) (room : 3 * k + 2 < length t) where
+module _ (n : ℕ) (t r : List ℕ) (room : 3 * n + 3 ≤ length t) (three : length r ≡ 3) where
   abbrev pub put : List ℕ
-  put = set (set (set t (3 * k) a) (3 * k + 1) b) (3 * k + 2) c
+  put = put_mid (3 * n) (3 * n + 3 - 3 * n) t r
 
-  cell_kept : (i : ℕ) → i ≢ 3 * k → i ≢ 3 * k + 1 → i ≢ 3 * k + 2 → get_or put i 0 ≡ get_or t i 0
-  cell_kept i not_first not_second not_third =
-      get_or-set_other _ (3 * k + 2) i c 0 not_third
-      ∙ (get_or-set_other _ (3 * k + 1) i b 0 not_second ∙ get_or-set_other t (3 * k) i a 0 not_first)
+  earlier : (i : ℕ) → i < 3 * n → get_or put i 0 ≡ get_or t i 0
+  earlier i below = search (rules, places)
 
-  cell_first : cell put k 0 ≡ a
-  cell_first =
-      let at_first : 3 * k + 0 ≡ 3 * k = omega arith in
-      let not_third : 3 * k ≢ 3 * k + 2 = omega arith in
-      let not_second : 3 * k ≢ 3 * k + 1 = omega arith in
-      ap (λ (i : ℕ). get_or put i 0) at_first
-      ∙ (get_or-set_other _ (3 * k + 2) (3 * k) c 0 not_third
-      ∙ (get_or-set_other _ (3 * k + 1) (3 * k) b 0 not_second ∙ get_or-set_same t (3 * k) a 0 (omega arith)))
+  here : (j : ℕ) → j < 3 → get_or put (3 * n + j) 0 ≡ get_or r j 0
+  here j below = search (rules, places)
 
-  cell_second : cell put k 1 ≡ b
-  cell_second =
-      let not_third : 3 * k + 1 ≢ 3 * k + 2 = omega arith in
-      get_or-set_other _ (3 * k + 2) (3 * k + 1) c 0 not_third
-      ∙ get_or-set_same _ (3 * k + 1) b 0 (omega (arith, length-set t (3 * k) a))
+  cell_earlier : (k i : ℕ) → k < n → i < 3 → cell put k i ≡ cell t k i
+  cell_earlier k i below within = earlier (3 * k + i) (omega arith)
 
-  cell_third : cell put k 2 ≡ c
-  cell_third =
-      get_or-set_same _ (3 * k + 2) c 0
-      (omega (arith, length-set (set t (3 * k) a) (3 * k + 1) b, length-set t (3 * k) a))
+  laid_here : Laid put n r
+  laid_here = record { first = here 0 (omega arith); second = here 1 (omega arith); third = here 2 (omega arith) }
 
-  cell_earlier : (j i : ℕ) → j < k → i < 3 → cell put j i ≡ cell t j i
-  cell_earlier j i below within =
-      let one : 3 * j + i ≢ 3 * k = omega arith in
-      let two : 3 * j + i ≢ 3 * k + 1 = omega arith in
-      let three : 3 * j + i ≢ 3 * k + 2 = omega arith in
-      cell_kept (3 * j + i) one two three
+  laid_earlier : (k : ℕ) (x : List ℕ) → k < n → Laid t k x → Laid put k x
+  laid_earlier k x below laid =
+      record {
+        first = cell_earlier k 0 below (omega arith) ∙ laid.first;
+        second = cell_earlier k 1 below (omega arith) ∙ laid.second;
+        third = cell_earlier k 2 below (omega arith) ∙ laid.third;
+      }
 
-  pub row_here : (x : Bid) → a ≡ x.zone → b ≡ x.price → c ≡ x.amount → row put k ≡ x
-  row_here x zone price amount =
-      let z = cell_first ∙ zone in
-      let p = cell_second ∙ price in
-      let q = cell_third ∙ amount in
-      λ i. record { zone = z i; price = p i; amount = q i }
-
-  pub line_here : (x : Line) → a ≡ x.from → b ≡ x.to → c ≡ x.capacity → line_row put k ≡ x
-  line_here x from to capacity =
-      let f = cell_first ∙ from in
-      let g = cell_second ∙ to in
-      let q = cell_third ∙ capacity in
-      λ i. record { from = f i; to = g i; capacity = q i }
-
-  pub rows_earlier : (j : ℕ) → j < k → row put j ≡ row t j
-  rows_earlier j below =
-      let z = cell_earlier j 0 below (omega arith) in
-      let p = cell_earlier j 1 below (omega arith) in
-      let q = cell_earlier j 2 below (omega arith) in
-      λ i. record { zone = z i; price = p i; amount = q i }
-
-  pub lines_earlier : (j : ℕ) → j < k → line_row put j ≡ line_row t j
-  lines_earlier j below =
-      let f = cell_earlier j 0 below (omega arith) in
-      let g = cell_earlier j 1 below (omega arith) in
-      let q = cell_earlier j 2 below (omega arith) in
-      λ i. record { from = f i; to = g i; capacity = q i }
-
-  pub laid_bid : (bs : List Bid) (x : Bid) → LaidBids k t bs → x ≡ bid bs k → a ≡ x.zone → b ≡ x.price → c ≡ x.amount →
-      LaidBids (k + 1) put bs
-  laid_bid bs x before is zone price amount j below =
-      elim (cases_lt j k) [
-        | inl earlier ↦ rows_earlier j earlier ∙ before j earlier
-        | inr last ↦ let same : j ≡ k = omega arith in rw same (row_here x zone price amount ∙ is)
+  -- one row more, of which P holds
+  pub laid_more :
+      (P : ℕ → List ℕ → Type 0) → ((k : ℕ) → k < n → (x : List ℕ) × P k x × Laid t k x) → P n r → (k : ℕ) → k < n + 1 →
+      (x : List ℕ) × P k x × Laid put k x
+  laid_more P before holds k below =
+      elim (cases_lt k n) [
+        | inl less ↦ let e = before k less in (e.0, e.1, laid_earlier k e.0 less e.2)
+        | inr last ↦ let same : k ≡ n = omega arith in rw same (r, holds, laid_here)
       ]
 
-  pub laid_line : (ls : List Line) (x : Line) → LaidLines k t ls → x ≡ line ls k → a ≡ x.from → b ≡ x.to → c ≡ x.capacity →
-      LaidLines (k + 1) put ls
-  laid_line ls x before is from to capacity j below =
-      elim (cases_lt j k) [
-        | inl earlier ↦ lines_earlier j earlier ∙ before j earlier
-        | inr last ↦ let same : j ≡ k = omega arith in rw same (line_here x from to capacity ∙ is)
-      ]
-
+-- a table whose rows are laid has the bids of a list, or its lines
 pub bids_laid :
-    (t : List ℕ) (n k : ℕ) (bs : List Bid) → length t ≡ 3 * n → n ≡ length bs → n ≤ k → LaidBids k t bs → bids_in t ≡ bs
-bids_laid t n k bs long count all laid =
+    (t : List ℕ) (n : ℕ) (bs : List Bid) → length t ≡ 3 * n → n ≡ length bs →
+    ((k : ℕ) → k < n → (x : List ℕ) × (x ≡ bid_numbers (bid bs k)) × Laid t k x) → bids_in t ≡ bs
+bids_laid t n bs long count laid =
     let rows : items t ≡ n = omega arith in
-    listed_same (items t) (row t) bs _ (rows ∙ count) (λ j below. laid j (omega arith))
+    listed_same (items t) _ bs _ (rows ∙ count)
+    (λ k below.
+    let e = laid k (omega arith) in
+    let zone = e.2.first ∙ ap (λ (x : List ℕ). get_or x 0 0) e.1 in
+    let price = e.2.second ∙ ap (λ (x : List ℕ). get_or x 1 0) e.1 in
+    let amount = e.2.third ∙ ap (λ (x : List ℕ). get_or x 2 0) e.1 in
+    λ i. record { zone = zone i; price = price i; amount = amount i })
 
 pub lines_laid :
-    (t : List ℕ) (n k : ℕ) (ls : List Line) → length t ≡ 3 * n → n ≡ length ls → n ≤ k → LaidLines k t ls → lines_in t ≡ ls
-lines_laid t n k ls long count all laid =
+    (t : List ℕ) (n : ℕ) (ls : List Line) → length t ≡ 3 * n → n ≡ length ls →
+    ((k : ℕ) → k < n → (x : List ℕ) × (x ≡ line_numbers (line ls k)) × Laid t k x) → lines_in t ≡ ls
+lines_laid t n ls long count laid =
     let rows : items t ≡ n = omega arith in
-    listed_same (items t) (line_row t) ls _ (rows ∙ count) (λ j below. laid j (omega arith))
+    listed_same (items t) _ ls _ (rows ∙ count)
+    (λ k below.
+    let e = laid k (omega arith) in
+    let from = e.2.first ∙ ap (λ (x : List ℕ). get_or x 0 0) e.1 in
+    let to = e.2.second ∙ ap (λ (x : List ℕ). get_or x 1 0) e.1 in
+    let capacity = e.2.third ∙ ap (λ (x : List ℕ). get_or x 2 0) e.1 in
+    λ i. record { from = from i; to = to i; capacity = capacity i })

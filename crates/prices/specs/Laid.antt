@@ -1,25 +1,26 @@
 -- An hour's bids and lines laid into tables, three numbers to an item. Assumes nothing: these are definitions.
 --
---   row t k         the three numbers of item k, as a bid; line_row the same as a line
---   LaidBids n      the first n rows of a table are the first n bids of a list; LaidLines the same for lines
+--   bid_numbers b   the numbers of a bid, in the order of a table; line_numbers the same of a line
+--   Laid t k r      the three numbers of item k of the table t are those of r
 --   Rowed, Zoned    how long lent tables are; nothing m the outcome with nothing in it
-use Rattle.std.specs.Prelude.{◌≡◌, ℕ, ◌*◌, ◌<◌, List, length, replicate}
-use Rattle.hour.specs.Market.{Market, Outcome, bid, line}
+use Rattle.std.specs.Prelude.{◌≡◌, ℕ, ◌*◌, List, [], ◌∷◌, length, get_or, replicate}
+use Rattle.hour.specs.Market.{Market, Outcome}
 use Rattle.hour.specs.declared.items.Bid.{Bid}
 use Rattle.hour.specs.declared.items.Line.{Line}
 use Rattle.network.specs.Tables.{cell, outcome_in}
 
-abbrev pub row : List ℕ → ℕ → Bid
-row t k = record { zone = cell t k 0; price = cell t k 1; amount = cell t k 2 }
+-- the numbers of a bid and of a line, in the order of a table
+abbrev pub bid_numbers : Bid → List ℕ
+bid_numbers b = b.zone ∷ b.price ∷ b.amount ∷ []
 
-abbrev pub line_row : List ℕ → ℕ → Line
-line_row t k = record { from = cell t k 0; to = cell t k 1; capacity = cell t k 2 }
+abbrev pub line_numbers : Line → List ℕ
+line_numbers l = l.from ∷ l.to ∷ l.capacity ∷ []
 
-abbrev pub LaidBids : ℕ → List ℕ → List Bid → Type 0
-LaidBids n t bs = (k : ℕ) → k < n → row t k ≡ bid bs k
-
-abbrev pub LaidLines : ℕ → List ℕ → List Line → Type 0
-LaidLines n t ls = (k : ℕ) → k < n → line_row t k ≡ line ls k
+-- the three numbers of item k of the table t are those of r
+pub record Laid (t : List ℕ) (k : ℕ) (r : List ℕ) : Type 0 where
+  pub first : cell t k 0 ≡ get_or r 0 0
+  pub second : cell t k 1 ≡ get_or r 1 0
+  pub third : cell t k 2 ≡ get_or r 2 0
 
 -- tables of three numbers to each bid and line, and a number for each
 pub record Rowed (nb ns nl : ℕ) (buys sells lines bought sold flow : List ℕ) : Type 0 where

@@ -1,46 +1,70 @@
 // The bids and lines of an hour, laid into tables of three numbers to an item.
-ghost use Rattle.std.specs.Prelude.{◌≡◌, ℕ, ◌+◌, ◌*◌, ◌<◌, length, slice_set};
+ghost use Rattle.std.specs.Prelude.{◌≡◌, ℕ, ◌+◌, ◌*◌, ◌<◌, length};
 ghost use Rattle.hour.specs.Bytes.{market_of};
+ghost use Rattle.hour.specs.Market.{bid, line};
 ghost use Rattle.network.specs.Tables.{bids_in, lines_in};
+ghost use Rattle.prices.specs.Laid.{Laid, bid_numbers, line_numbers};
 
-use hour::Hour;
+use hour::{Bid, Hour};
 
-// Row k of a table.
-fn put_row(table: &mut [u64], k: usize, first: u64, second: u64, third: u64)
-    requires { 3 * k + 2 < length table.old }
-    ensures { table.new ≡ slice_set (slice_set (slice_set table.old (3 * k) first) (3 * k + 1) second) (3 * k + 2) third }
+// So many rows of a table, each as `row` says.
+fn lay<F: Fn(usize) -> [u64; 3]>(table: &mut [u64], count: usize, row: F)
+    requires long { length table.old ≡ 3 * count }
+    requires rows { (k : ℕ) → k < count → F.pre row k }
+    ensures { (k : ℕ) → k < count → (r : _) × F.post row k r × Laid table.new k r }
 {
-    table[3 * k] = first;
-    table[3 * k + 1] = second;
-    table[3 * k + 2] = third;
+    for k in 0..count {
+        table[3 * k..3 * k + 3].copy_from_slice(&row(k));
+    }
+}
+
+fn bid_row(bid: Bid) -> [u64; 3]
+    ensures { result ≡ bid_numbers bid }
+{
+    [bid.zone, bid.price, bid.amount]
 }
 
 pub fn lay_buys(hour: Hour<'_>, table: &mut [u64])
     requires { length table.old ≡ 3 * hour.buys }
     ensures { bids_in table.new ≡ (market_of hour.entry.bytes.now).buys }
 {
-    for k in 0..hour.buys() {
-        let bid = hour.buy(k);
-        put_row(table, k, bid.zone, bid.price, bid.amount);
-    }
+    lay(
+        table,
+        hour.buys(),
+        |k|
+            requires { k < hour.buys }
+            ensures { result ≡ bid_numbers (bid (market_of hour.entry.bytes.now).buys k) }
+        { bid_row(hour.buy(k)) },
+    );
 }
 
 pub fn lay_sells(hour: Hour<'_>, table: &mut [u64])
     requires { length table.old ≡ 3 * hour.sells }
     ensures { bids_in table.new ≡ (market_of hour.entry.bytes.now).sells }
 {
-    for k in 0..hour.sells() {
-        let bid = hour.sell(k);
-        put_row(table, k, bid.zone, bid.price, bid.amount);
-    }
+    lay(
+        table,
+        hour.sells(),
+        |k|
+            requires { k < hour.sells }
+            ensures { result ≡ bid_numbers (bid (market_of hour.entry.bytes.now).sells k) }
+        { bid_row(hour.sell(k)) },
+    );
 }
 
 pub fn lay_lines(hour: Hour<'_>, table: &mut [u64])
     requires { length table.old ≡ 3 * hour.lines }
     ensures { lines_in table.new ≡ (market_of hour.entry.bytes.now).lines }
 {
-    for k in 0..hour.lines() {
-        let line = hour.line(k);
-        put_row(table, k, line.from, line.to, line.capacity);
-    }
+    lay(
+        table,
+        hour.lines(),
+        |k|
+            requires { k < hour.lines }
+            ensures { result ≡ line_numbers (line (market_of hour.entry.bytes.now).lines k) }
+        {
+            let line = hour.line(k);
+            [line.from, line.to, line.capacity]
+        },
+    );
 }
