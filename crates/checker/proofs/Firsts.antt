@@ -1,6 +1,13 @@
 -- The first number that passes a test. Assumes nothing.
-use Rattle.std.proofs.Common.{◌≡◌, ℕ, zero, suc, ◌+◌, ◌<◌, Bool, true, false, is_some, Some, None, Option, sym, refl, ap, ◌∙◌, inl, inr, arith}
+use Rattle.std.proofs.Common.{◌≡◌, ℕ, zero, suc, ◌+◌, ◌<◌, ◌≤◌, Bool, true, false, is_some, Some, None, Option, MatchOption, sym, refl, ap, ◌∙◌, inl, inr, arith}
 use Rattle.std.proofs.lemmas.Bool.{cases_Bool, both_ways}
+use Rattle.std.proofs.lemmas.Iterator.{first_from_Range}
+use Rattle.std.proofs.iter.Yields.{nat_range_steps}
+use Rattle.std.specs.Borrow.{Bor}
+use Rattle.std.specs.Fn.{CalledAt}
+use Rattle.std.specs.Iterator.{FindsItem}
+use Rattle.std.specs.declared.ops.Range.{Range}
+use denote.Param.Members.{Mut}
 use Rattle.hour.specs.First.{when, ◌else◌, first}
 use Rattle.hour.proofs.First.{is_none, when_none, when_false, first_more, first_found, first_none, first_all}
 
@@ -23,6 +30,23 @@ module _ (test : ℕ → Bool) where
 
   pub none_found : (n : ℕ) → ((k : ℕ) → k < n → test k ≡ false) → first n (λ j. when (test j) j) ≡ None
   none_found n none = first_all (λ j. when (test j) j) n (λ k below. when_false (test k) k (none k below))
+
+  -- what a search over 0, 1, .., n - 1 answers
+  pub sought :
+      {F : Type 0} {g : Mut F (Bor ℕ × Unit {0}) Bool} (n : ℕ) (s u : Range ℕ) (f : F) (r : Option ℕ) → s.start ≡ 0 →
+      s.end ≡ n → FindsItem nat_range_steps g s f r u → ((x : ℕ) (q : F) → CalledAt g f x true q → test x ≡ true) →
+      ((x : ℕ) (q : F) → CalledAt g f x false q → (q ≡ f) × (test x ≡ false)) → r ≡ first n (λ j. when (test j) j)
+  sought n s u f r start end ran hit miss =
+      go r (first_from_Range s u f r (λ k. test k ≡ true) (λ k. test k ≡ false) ran hit miss)
+    where
+      go :
+          (r : Option ℕ) →
+          MatchOption r ((k : ℕ) → s.start ≤ k → k < s.end → test k ≡ false)
+          (λ i. (s.start ≤ i) × (i < s.end) × (test i ≡ true) × ((k : ℕ) → s.start ≤ k → k < i → test k ≡ false)) →
+          r ≡ first n (λ j. when (test j) j)
+      go None none = sym (none_found n (λ k below. none k (omega arith) (omega arith)))
+      go (Some i) there =
+          first_here i n (none_found i (λ k below. there.3 k (omega arith) below)) (omega (arith, there.1)) there.2
 
   -- what was found passes, and is the first
   pub record Found (n k : ℕ) : Type 0 where

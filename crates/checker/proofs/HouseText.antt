@@ -29,6 +29,7 @@ use Rattle.checker.specs.Promises.{Says, table_of, HouseText}
 use Rattle.checker.specs.Telling.{LowerSaid, JudgedAs, SaidAs, ReadAs, ReportedAs}
 use Rattle.checker.specs.declared.reports.Report.{Report}
 use Rattle.checker.specs.declared.reports.Report.TheVariants as reports
+use Rattle.checker.specs.declared.reports.Wrong.{Wrong}
 use Rattle.checker.specs.declared.verdict.Broken.{Broken}
 
 listed_at : {A : Type 0} (n : ℕ) (f : ℕ → A) (k : ℕ) (d : A) → k < n → get_or (listed n f) k d ≡ f k
@@ -75,7 +76,7 @@ module _ (m : Market) (proper : Proper m) (o : Outcome) (ps : List ℕ) (n : ℕ
       ∙ sym says.worth
 
   none_wrong :
-      wrong_in m (outcome_said t) t.zones.prices t.worth t.buys.moneys t.sells.moneys t.lines.moneys ≡ None
+      wrong_in m (outcome_said t) t.zones.prices t ≡ None
   none_wrong =
       else_none _ _ (figure_follows 1 None _ _ worth_follows)
       ∙ (else_none _ _ (rows_follow sorts.Buy (first_line (counts_in m) sorts.Buy))
@@ -89,11 +90,11 @@ module _ (m : Market) (proper : Proper m) (o : Outcome) (ps : List ℕ) (n : ℕ
       let s = settled_agree m ps t.zones.prices proper said_prices o (outcome_said t) said_agree settled in
       let below = lowest_agree m ps t.zones.prices proper said_prices low in
       let accepted =
-      subst (λ (w : Option Report). JudgedAs m (outcome_said t) t.zones.prices None w r) none_wrong
+      subst (λ (w : Option Wrong). JudgedAs m (outcome_said t) t.zones.prices None w r) none_wrong
       (subst
       (λ (b : Option Broken).
       JudgedAs m (outcome_said t) t.zones.prices b
-      (wrong_in m (outcome_said t) t.zones.prices t.worth t.buys.moneys t.sells.moneys t.lines.moneys) r)
+      (wrong_in m (outcome_said t) t.zones.prices t) r)
       (none_broken m (outcome_said t) t.zones.prices f s) said)
       in
       go f below accepted.lower accepted.report accepted.said

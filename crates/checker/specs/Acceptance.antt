@@ -1,6 +1,7 @@
 -- When a published result is accepted, and the first rule that it breaks. Assumes nothing: these are definitions.
 --
 --   market_seen h          the market that an hour's bytes say; outcome_given o the outcome that lent slices hold
+--   claimed f c            f of the market, the outcome and the prices of a claim
 --   content_test l x c v   whether x is content, as Content says, where a unit costs c and brings v
 --   item_broken            the rule that a buy, a sell or a line breaks: too large comes before not allowed
 --   sort_broken            the same for number k of a sort, and first_broken for the first of them
@@ -33,6 +34,7 @@ use Rattle.checker.specs.declared.verdict.Broken.{Broken}
 use Rattle.checker.specs.declared.verdict.Broken.TheVariants.{TooLarge, NotAllowed, Unbalanced}
 use Rattle.checker.specs.declared.verdict.Verdict.{Verdict}
 use Rattle.checker.specs.declared.verdict.Verdict.TheVariants as verdicts
+use Rattle.checker.specs.declared.claim.Claim.{Claim}
 use Rattle.checker.specs.declared.balance.Side.{Side}
 use Rattle.checker.specs.declared.balance.Side.TheVariants.{Sold, Into, Bought, OutOf}
 
@@ -41,6 +43,9 @@ market_seen hour = market_of hour.bytes.now
 
 abbrev pub outcome_given : Amounts → Outcome
 outcome_given o = outcome_in o.bought.now o.sold.now o.flow.now
+
+abbrev pub claimed : {A : Type 0} → (Market → Outcome → List ℕ → A) → Claim → A
+claimed f c = f (market_seen c.hour) (outcome_given c.amounts) c.prices.now
 
 abbrev pub content_test : ℕ → ℕ → ℕ → ℕ → Bool
 content_test limit amount cost value =
@@ -86,7 +91,8 @@ comes m o z = in_zone z m.sells o.sold + into z m.lines o.flow
 abbrev pub goes : Market → Outcome → ℕ → ℕ
 goes m o z = in_zone z m.buys o.bought + out_of z m.lines o.flow
 
--- how many there are of what a side sums up, the zone that each of them counts in, and their amounts in that zone together
+-- how many there are of what a side sums up, the zone that each of them counts in, the amount of each, and their amounts in
+-- that zone together
 abbrev pub side_count : Market → Side → ℕ
 side_count m Sold = length m.sells
 side_count m Into = length m.lines
@@ -99,8 +105,14 @@ side_zone m Into k = (line m.lines k).to
 side_zone m Bought k = (bid m.buys k).zone
 side_zone m OutOf k = (line m.lines k).from
 
-abbrev pub side_total : Market → Side → ℕ → List ℕ → ℕ
-side_total m side z xs = tagged (side_count m side) (side_zone m side) z (at xs)
+abbrev pub side_amounts : Outcome → Side → List ℕ
+side_amounts o Sold = o.sold
+side_amounts o Into = o.flow
+side_amounts o Bought = o.bought
+side_amounts o OutOf = o.flow
+
+abbrev pub side_total : Market → Outcome → Side → ℕ → ℕ
+side_total m o side z = tagged (side_count m side) (side_zone m side) z (at (side_amounts o side))
 
 abbrev pub zone_broken : Market → Outcome → ℕ → Option Broken
 zone_broken m o z = when (not (comes m o z == goes m o z)) (Unbalanced z)

@@ -7,7 +7,7 @@
 --   worth_wrong          a worth that is another than the amounts make
 --   counts_in m          how many of each a market has
 --   outcome_said t       the amounts and flows that a text says
---   wrong_in m o ..      the first row that does not follow, where rows say so: the worth, buys, sells, lines
+--   wrong_in m o ps t    the first row of what a text says that does not follow: the worth, buys, sells, lines
 use Rattle.std.specs.Prelude.{ℕ, ◌+◌, Bool, false, not, List, length, ℤ, pos, negsuc, Some, None, Option, ◌==◌, slice_index_or}
 use Rattle.hour.specs.First.{when, ◌else◌, first}
 use Rattle.hour.specs.Market.{Market, Outcome}
@@ -17,8 +17,7 @@ use Rattle.network.specs.Tables.{outcome_in}
 use Rattle.ledger.specs.Money.{money, item, count, worth_by}
 use Rattle.checker.specs.Form.{Saying, first_line}
 use Rattle.checker.specs.declared.form.Counts.{Counts}
-use Rattle.checker.specs.declared.reports.Report.{Report}
-use Rattle.checker.specs.declared.reports.Report.TheVariants as reports
+use Rattle.checker.specs.declared.reports.Wrong.{Wrong}
 
 abbrev pub same_number : ℤ → ℤ → Bool
 same_number (pos a) (pos b) = a == b
@@ -30,18 +29,18 @@ abbrev pub money_at : List ℤ → ℕ → ℤ
 money_at ds k = slice_index_or ds k (pos 0)
 
 -- a number that is written where another follows
-abbrev pub figure_wrong : ℕ → Option Sort → ℤ → ℤ → Option Report
+abbrev pub figure_wrong : ℕ → Option Sort → ℤ → ℤ → Option Wrong
 figure_wrong line figure follows written =
     when (not (same_number follows written))
-    (reports.Wrong (record { line = line; figure = figure; follows = follows; written = written }))
+    (record { line = line; figure = figure; follows = follows; written = written })
 
-abbrev pub row_wrong : Market → Outcome → List ℕ → Sort → ℕ → List ℤ → ℕ → Option Report
+abbrev pub row_wrong : Market → Outcome → List ℕ → Sort → ℕ → List ℤ → ℕ → Option Wrong
 row_wrong m o ps s line ds k = figure_wrong (line + k) (Some s) (money m o ps (item s k)) (money_at ds k)
 
-abbrev pub rows_wrong : Market → Outcome → List ℕ → Sort → ℕ → List ℤ → Option Report
+abbrev pub rows_wrong : Market → Outcome → List ℕ → Sort → ℕ → List ℤ → Option Wrong
 rows_wrong m o ps s line ds = first (count m s) (row_wrong m o ps s line ds)
 
-abbrev pub worth_wrong : Market → Outcome → ℤ → Option Report
+abbrev pub worth_wrong : Market → Outcome → ℤ → Option Wrong
 worth_wrong m o written = figure_wrong 1 None (worth_by m o) written
 
 abbrev pub counts_in : Market → Counts
@@ -51,9 +50,9 @@ counts_in m =
 abbrev pub outcome_said : Saying → Outcome
 outcome_said t = outcome_in t.buys.amounts t.sells.amounts t.lines.amounts
 
-abbrev pub wrong_in : Market → Outcome → List ℕ → ℤ → List ℤ → List ℤ → List ℤ → Option Report
-wrong_in m o ps worth paid got earned =
-    worth_wrong m o worth
-    else rows_wrong m o ps sorts.Buy (first_line (counts_in m) sorts.Buy) paid
-    else rows_wrong m o ps sorts.Sell (first_line (counts_in m) sorts.Sell) got
-    else rows_wrong m o ps sorts.Line (first_line (counts_in m) sorts.Line) earned
+abbrev pub wrong_in : Market → Outcome → List ℕ → Saying → Option Wrong
+wrong_in m o ps t =
+    worth_wrong m o t.worth
+    else rows_wrong m o ps sorts.Buy (first_line (counts_in m) sorts.Buy) t.buys.moneys
+    else rows_wrong m o ps sorts.Sell (first_line (counts_in m) sorts.Sell) t.sells.moneys
+    else rows_wrong m o ps sorts.Line (first_line (counts_in m) sorts.Line) t.lines.moneys

@@ -3,11 +3,11 @@
 --   LowerSaid m o ps l     no list that settles is lower anywhere; or the first zone that could be lower
 --   AcceptedWith           a result is accepted, with what is true of its prices
 --   JudgedAs               a broken rule, or else a row that does not follow, or else that a result is accepted
---   RowsAs, SaidAs         what is said of amounts, prices, a worth and rows of money; of all that a text says
+--   RowsAs, SaidAs         what is said of amounts, prices and the rows of a text; of all that a text says
 --   ReadAs                 the same of a text that may have a line that is not in the form
 --   Reports bs text r      r is what is said of the text for the hour that the bytes say: refused, unreadable, broken, a wrong
 --                          row, and only if none of these: accepted
-use Rattle.std.specs.Prelude.{◌≡◌, ℕ, List, ℤ, Some, None, Ok, Err, Option, Result}
+use Rattle.std.specs.Prelude.{◌≡◌, ℕ, List, Some, None, Ok, Err, Option, Result}
 use Rattle.hour.specs.Bytes.{market_of, refusal_of}
 use Rattle.hour.specs.Market.{Market, Outcome}
 use Rattle.hour.specs.declared.refusals.Refusal.{Refusal}
@@ -19,6 +19,7 @@ use Rattle.checker.specs.Holding.{FirstLower}
 use Rattle.checker.specs.declared.verdict.Broken.{Broken}
 use Rattle.checker.specs.declared.reports.Report.{Report}
 use Rattle.checker.specs.declared.reports.Report.TheVariants as reports
+use Rattle.checker.specs.declared.reports.Wrong.{Wrong}
 
 abbrev pub LowerSaid : Market → Outcome → List ℕ → Option ℕ → Type 0
 LowerSaid m o ps None = Lowest m ps
@@ -29,18 +30,16 @@ pub record AcceptedWith (m : Market) (o : Outcome) (ps : List ℕ) (r : Report) 
   pub report : r ≡ reports.Accepted lower
   pub said : LowerSaid m o ps lower
 
-abbrev pub JudgedAs : Market → Outcome → List ℕ → Option Broken → Option Report → Report → Type 0
+abbrev pub JudgedAs : Market → Outcome → List ℕ → Option Broken → Option Wrong → Report → Type 0
 JudgedAs m o ps (Some broken) wrong r = r ≡ reports.Broken broken
-JudgedAs m o ps None (Some wrong) r = r ≡ wrong
+JudgedAs m o ps None (Some wrong) r = r ≡ reports.Wrong wrong
 JudgedAs m o ps None None r = AcceptedWith m o ps r
 
-abbrev pub RowsAs : Market → Outcome → List ℕ → ℤ → List ℤ → List ℤ → List ℤ → Report → Type 0
-RowsAs m o ps worth paid got earned r =
-    JudgedAs m o ps (broken_of m o ps) (wrong_in m o ps worth paid got earned) r
+abbrev pub RowsAs : Market → Outcome → List ℕ → Saying → Report → Type 0
+RowsAs m o ps t r = JudgedAs m o ps (broken_of m o ps) (wrong_in m o ps t) r
 
 abbrev pub SaidAs : Market → Saying → Report → Type 0
-SaidAs m t r =
-    RowsAs m (outcome_said t) t.zones.prices t.worth t.buys.moneys t.sells.moneys t.lines.moneys r
+SaidAs m t r = RowsAs m (outcome_said t) t.zones.prices t r
 
 abbrev pub ReadAs : Market → Result Saying ℕ → Report → Type 0
 ReadAs m (Err line) r = r ≡ reports.Unreadable line

@@ -3,6 +3,7 @@
 
 mod accept;
 mod balance;
+mod claim;
 mod follows;
 mod form;
 mod holders;

@@ -1,14 +1,14 @@
 // Whether the prices of a published result are the lowest that settle.
 ghost use Rattle.std.specs.Prelude.{◌≡◌, ℕ, ◌≤◌, length, None};
 ghost use Rattle.network.specs.Tables.{outcome_in};
-ghost use Rattle.checker.specs.Acceptance.{market_seen, outcome_given, broken_of, Exactly};
+ghost use Rattle.checker.specs.Acceptance.{market_seen, outcome_given, claimed, broken_of, Exactly};
 ghost use Rattle.checker.specs.Marks.{unmarked, refusal_to_mark, ranked, lowness_of, Left, LowerFirst, LowestAll};
 ghost use Rattle.checker.specs.Seeking.{LeftIn};
 ghost use Rattle.checker.specs.declared.verdict.Lowness.TheVariants.{Lower, Lowest};
 
-use crate::accept::first_broken;
+use crate::claim::Claim;
 use crate::lent::read_with;
-use crate::marks::{find_unmarked, mark_held};
+use crate::marks::find_unmarked;
 use crate::verdict::Lowness;
 use hour::{Hour, Refusal, check_items, check_lent};
 use network::Amounts;
@@ -29,20 +29,22 @@ fn refusal_to_mark(bytes: &[u8], o: Amounts, prices: &[u64], lent: usize) -> Opt
 }
 
 // The answer of an hour that is not refused.
-fn rank(hour: Hour<'_>, o: Amounts, prices: &[u64], marks: &mut [u64]) -> Lowness
-    requires { hour.zones ≤ length marks.old }
+fn rank(claim: Claim<'_>, marks: &mut [u64]) -> Lowness
+    requires { claim.hour.zones ≤ length marks.old }
     ensures answer { result
         ≡ ranked
         None
-        (broken_of (market_seen hour.entry) (outcome_given o.entry) prices.now)
-        (unmarked (market_seen hour.entry) marks.new) }
-    ensures left { LeftIn (market_seen hour.entry) (outcome_given o.entry) prices.now marks.old marks.new }
+        (claimed broken_of claim.entry)
+        (unmarked (market_seen claim.entry.hour) marks.new) }
+    ensures left { LeftIn
+        (market_seen claim.entry.hour) (outcome_given claim.entry.amounts) claim.entry.prices.now
+        marks.old marks.new }
 {
-    if let Some(broken) = first_broken(hour, o, prices) {
+    if let Err(broken) = claim.check() {
         return Lowness::Broken(broken);
     }
-    mark_held(hour, o, prices, marks);
-    match find_unmarked(hour.zones() as usize, marks) {
+    claim.mark_held(marks);
+    match find_unmarked(claim.hour.zones() as usize, marks) {
         Some(zone) => Lowness::Lower { zone },
         None => Lowness::Lowest,
     }
@@ -92,6 +94,16 @@ pub fn lowest<'a>(
     let o = Amounts { bought, sold, flow };
     match refusal_to_mark(bytes, o, prices, marks.len()) {
         Some(refusal) => Lowness::Refused(refusal),
-        None => rank(Hour::of(bytes), o, prices, marks),
+        None => {
+            let hour = Hour::of(bytes);
+            rank(
+                Claim {
+                    hour,
+                    amounts: o,
+                    prices,
+                },
+                marks,
+            )
+        }
     }
 }

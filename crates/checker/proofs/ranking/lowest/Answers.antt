@@ -9,8 +9,8 @@ returns-in-None c =
     let ps = c.args.prices.now in
     let old = c.args.marks.now in
     let new = c.rank.new.marks in
-    let left = left_late bs o ps old new _ c.of.ensures c.in-None.ensures c.rank.ensures.left in
-    let is = answer_late bs o ps old new _ _ c.of.ensures c.in-None.ensures c.rank.ensures.answer in
+    let left = left_late bs o ps old new _ c.of-hour.ensures c.in-None.ensures c.rank.ensures.left in
+    let is = answer_late bs o ps old new _ _ c.of-hour.ensures c.in-None.ensures c.rank.ensures.answer in
     record {
       answer = is;
       left = left;
