@@ -1,5 +1,5 @@
 // Results of small hours: what stands, the first rule broken, whether prices could be lower, and what is said of texts.
-use checker::{Lowness, Verdict, check, lowest, report_on};
+use checker::{Objection, check, lowest, report_on};
 use std::process::Abort;
 use std::test::Fail;
 
@@ -18,73 +18,43 @@ const FULL_LINE: [u8; 26] = [
     2, 1, 0, 1, 0, 1, 0, 1, 30, 0, 0, 5, 0, 0, 0, 12, 0, 0, 10, 0, 0, 0, 1, 5, 0, 0,
 ];
 
-fn accepted(verdict: Verdict) -> bool {
-    match verdict {
-        Verdict::Accepted => true,
-        Verdict::Broken(_) => false,
-        Verdict::Refused(_) => false,
-    }
-}
-
-fn broken(rt: &impl Abort, verdict: Verdict, rule: u64, number: usize) -> Result<(), Fail> {
-    match verdict {
-        Verdict::Broken(broken) => {
+fn broken(rt: &impl Abort, answer: Result<(), Objection>, rule: u64, number: usize) {
+    match answer {
+        Err(Objection::Broken(broken)) => {
             assert_eq!(rt; broken.rule(), rule);
             assert_eq!(rt; broken.number(), number);
-            Ok(())
         }
-        Verdict::Accepted => {
-            assert!(rt; false);
-            Ok(())
-        },
-        Verdict::Refused(_) => {
-            assert!(rt; false);
-            Ok(())
-        },
+        Ok(()) | Err(Objection::Refused(_)) => panic!(rt; "no rule is broken"),
     }
 }
 
-fn refused(rt: &impl Abort, verdict: Verdict, number: u64, place: usize) -> Result<(), Fail> {
-    match verdict {
-        Verdict::Refused(refusal) => {
+fn refused(rt: &impl Abort, answer: Result<(), Objection>, number: u64, place: usize) {
+    match answer {
+        Err(Objection::Refused(refusal)) => {
             assert_eq!(rt; refusal.number(), number);
             assert_eq!(rt; refusal.place(), place);
-            Ok(())
         }
-        Verdict::Accepted => {
-            assert!(rt; false);
-            Ok(())
-        },
-        Verdict::Broken(_) => {
-            assert!(rt; false);
-            Ok(())
-        },
+        Ok(()) | Err(Objection::Broken(_)) => panic!(rt; "nothing is refused"),
     }
 }
 
-fn is_lowest(answer: Lowness) -> bool {
+// No zone could be lower, or this one is the first.
+fn lower(rt: &impl Abort, answer: Result<Option<usize>, Objection>, zone: Option<usize>) {
     match answer {
-        Lowness::Lowest => true,
-        Lowness::Lower { .. } => false,
-        Lowness::Broken(_) => false,
-        Lowness::Refused(_) => false,
-    }
-}
-
-fn lower_at(answer: Lowness, at: usize) -> bool {
-    match answer {
-        Lowness::Lower { zone } => zone == at,
-        Lowness::Lowest => false,
-        Lowness::Broken(_) => false,
-        Lowness::Refused(_) => false,
+        Ok(lower) => assert!(rt; lower == zone),
+        Err(_) => panic!(rt; "the result does not stand"),
     }
 }
 
 #[test]
 fn the_lowest_price_is_that_of_the_sell(rt: HostRuntime) {
     let mut marks: [u64; 2] = [7, 7];
-    assert!(rt; accepted(check(&ONE_EACH, &[10], &[10], &[], &[12])));
-    assert!(rt; is_lowest(lowest(&ONE_EACH, &[10], &[10], &[], &[12], &mut marks)));
+    assert!(rt; check(&ONE_EACH, &[10], &[10], &[], &[12]).is_ok());
+    lower(
+        &rt,
+        lowest(&ONE_EACH, &[10], &[10], &[], &[12], &mut marks),
+        None,
+    );
     assert_eq!(rt; marks[0], 1);
     assert_eq!(rt; marks[1], 7);
 }
@@ -92,20 +62,23 @@ fn the_lowest_price_is_that_of_the_sell(rt: HostRuntime) {
 #[test]
 fn the_highest_is_accepted_and_could_be_lower(rt: HostRuntime) {
     let mut marks: [u64; 1] = [7];
-    assert!(rt; accepted(check(&ONE_EACH, &[10], &[10], &[], &[30])));
-    assert!(rt; lower_at(lowest(&ONE_EACH, &[10], &[10], &[], &[30], &mut marks), 0));
+    assert!(rt; check(&ONE_EACH, &[10], &[10], &[], &[30]).is_ok());
+    lower(
+        &rt,
+        lowest(&ONE_EACH, &[10], &[10], &[], &[30], &mut marks),
+        Some(0),
+    );
     assert_eq!(rt; marks[0], 0);
 }
 
 #[test]
 fn a_zone_of_another_price_holds_nothing_up(rt: HostRuntime) {
     let mut marks: [u64; 2] = [7, 7];
-    assert!(rt; accepted(check(&WITH_LINE, &[10], &[10], &[0], &[30, 0])));
-    assert!(rt;
-        lower_at(
-            lowest(&WITH_LINE, &[10], &[10], &[0], &[30, 0], &mut marks),
-            0,
-        )
+    assert!(rt; check(&WITH_LINE, &[10], &[10], &[0], &[30, 0]).is_ok());
+    lower(
+        &rt,
+        lowest(&WITH_LINE, &[10], &[10], &[0], &[30, 0], &mut marks),
+        Some(0),
     );
     assert_eq!(rt; marks[0], 0);
     assert_eq!(rt; marks[1], 1);
@@ -114,50 +87,51 @@ fn a_zone_of_another_price_holds_nothing_up(rt: HostRuntime) {
 #[test]
 fn a_line_that_carries_something_hands_on_a_price(rt: HostRuntime) {
     let mut marks: [u64; 2] = [0, 0];
-    assert!(rt;
-        lower_at(
-            lowest(&FULL_LINE, &[5], &[5], &[5], &[12, 30], &mut marks),
-            1,
-        )
+    lower(
+        &rt,
+        lowest(&FULL_LINE, &[5], &[5], &[5], &[12, 30], &mut marks),
+        Some(1),
     );
-    assert!(rt; is_lowest(lowest(&FULL_LINE, &[5], &[5], &[5], &[12, 12], &mut marks)));
+    lower(
+        &rt,
+        lowest(&FULL_LINE, &[5], &[5], &[5], &[12, 12], &mut marks),
+        None,
+    );
 }
 
 #[test]
-fn the_first_rule_broken_is_named(rt: HostRuntime) -> Result<(), Fail> {
+fn the_first_rule_broken_is_named(rt: HostRuntime) {
     let huge = 18446744073709551615;
     broken(
         &rt,
         check(&WITH_LINE, &[huge], &[11], &[0], &[12, 0]),
         20,
         0,
-    )?;
-    broken(&rt, check(&WITH_LINE, &[9], &[11], &[0], &[12, 0]), 21, 0)?;
+    );
+    broken(&rt, check(&WITH_LINE, &[9], &[11], &[0], &[12, 0]), 21, 0);
     broken(
         &rt,
         check(&WITH_LINE, &[10], &[9], &[0], &[huge, huge]),
         21,
         0,
-    )?;
-    broken(&rt, check(&WITH_LINE, &[10], &[9], &[0], &[12, 0]), 22, 0)?;
-    broken(&rt, check(&WITH_LINE, &[9], &[10], &[1], &[30, 30]), 22, 1)
+    );
+    broken(&rt, check(&WITH_LINE, &[10], &[9], &[0], &[12, 0]), 22, 0);
+    broken(&rt, check(&WITH_LINE, &[9], &[10], &[1], &[30, 30]), 22, 1);
 }
 
 #[test]
-fn short_slices_are_refused_after_the_head(rt: HostRuntime) -> Result<(), Fail> {
-    refused(&rt, check(&[0], &[], &[], &[], &[]), 2, 0)?;
-    refused(&rt, check(&WITH_LINE, &[10], &[], &[0], &[12]), 9, 1)?;
-    refused(&rt, check(&WITH_LINE, &[10], &[10], &[0], &[12]), 9, 3)
+fn short_slices_are_refused_after_the_head(rt: HostRuntime) {
+    refused(&rt, check(&[0], &[], &[], &[], &[]), 2, 0);
+    refused(&rt, check(&WITH_LINE, &[10], &[], &[0], &[12]), 9, 1);
+    refused(&rt, check(&WITH_LINE, &[10], &[10], &[0], &[12]), 9, 3);
 }
 
 #[test]
 fn short_marks_are_refused(rt: HostRuntime) {
     let mut marks: [u64; 1] = [7];
     match lowest(&WITH_LINE, &[10], &[10], &[0], &[12, 0], &mut marks) {
-        Lowness::Refused(refusal) => assert_eq!(rt; refusal.place(), 4),
-        Lowness::Lowest => assert!(rt; false),
-        Lowness::Lower { .. } => assert!(rt; false),
-        Lowness::Broken(_) => assert!(rt; false),
+        Err(Objection::Refused(refusal)) => assert_eq!(rt; refusal.place(), 4),
+        Ok(_) | Err(Objection::Broken(_)) => panic!(rt; "nothing is refused"),
     }
     assert_eq!(rt; marks[0], 7);
 }

@@ -1,40 +1,24 @@
 -- What the answer about prices says, and that it is the only one. Assumes nothing.
-use Rattle.std.proofs.Common.{◌≡◌, ℕ, ◌<◌, ◌≤◌, Bool, eqb, List, length, Some, None, Option, sym, refl, ap, ◌∙◌, subst, ap₂, inl, inr, arith}
+use Rattle.std.proofs.Common.{◌≡◌, ℕ, ◌<◌, ◌≤◌, Bool, eqb, List, length, Some, None, Ok, Err, Option, Result, sym, refl, ap, ◌∙◌, subst, ap₂, inl, inr, arith}
 use Rattle.std.proofs.lemmas.Bool.{eqb-true, eqb-false, eq-eqb, ne_eqb}
 use Rattle.hour.specs.Bytes.{market_of}
 use Rattle.hour.specs.Market.{Market, Outcome, Proper, Feasible, Settled, at}
 use Rattle.hour.specs.declared.refusals.Refusal.{Refusal}
 use Rattle.network.specs.Prices as prices
 use Rattle.checker.specs.declared.verdict.Broken.{Broken}
-use Rattle.checker.specs.declared.verdict.Lowness.{Lowness}
-use Rattle.checker.specs.declared.verdict.Lowness.TheVariants as lowness
-use Rattle.checker.specs.Acceptance.{broken_of, Exactly}
+use Rattle.checker.specs.declared.verdict.Objection.{Objection}
+use Rattle.checker.specs.declared.verdict.Objection.TheVariants as objections
+use Rattle.checker.specs.Acceptance.{broken_of, objection_to, unless, Exactly}
 use Rattle.checker.specs.Holding.{LowerAt, NowhereLower, FirstLower}
-use Rattle.checker.specs.Marks.{unmarked, Marks, refusal_to_mark, ranked, lowness_of, Answerable, Left}
+use Rattle.checker.specs.Marks.{unmarked, Marks, refusal_to_mark, lowness_of, Answerable, Left}
 use Rattle.checker.specs.Seeking.{LeftIn}
 use Rattle.checker.proofs.Breaches.{feasible_from_none, settled_from_none, none_broken}
 use Rattle.checker.proofs.Firsts.{first_here, none_passes, none_found, found}
+use Rattle.checker.proofs.Judged.{unobjected}
 use Rattle.checker.proofs.Held.{held_le, held_nowhere_lower}
 use Rattle.checker.proofs.Lending.{taken_marks}
 use Rattle.checker.proofs.Lowered.{unmarked_lower}
 use Rattle.checker.proofs.Rules.{proper_hour}
-
--- what an answer says of the parts that it was made from
-ranked_lower :
-    (refusal : Option Refusal) (broken : Option Broken) (lower : Option ℕ) (z : ℕ) →
-    ranked refusal broken lower ≡ lowness.Lower z → (refusal ≡ None) × (broken ≡ None) × (lower ≡ Some z)
-ranked_lower None None (Some w) z e = (refl, refl, cc)
-ranked_lower None None None z e = let n : ◌≡◌ {A = ℕ} 0 1 = cc in absurd (omega arith)
-ranked_lower None (Some broken) lower z e = let n : ◌≡◌ {A = ℕ} 0 1 = cc in absurd (omega arith)
-ranked_lower (Some refusal) broken lower z e = let n : ◌≡◌ {A = ℕ} 0 1 = cc in absurd (omega arith)
-
-ranked_lowest :
-    (refusal : Option Refusal) (broken : Option Broken) (lower : Option ℕ) →
-    ranked refusal broken lower ≡ lowness.Lowest → (refusal ≡ None) × (broken ≡ None) × (lower ≡ None)
-ranked_lowest None None None e = (refl, refl, refl)
-ranked_lowest None None (Some w) e = let n : ◌≡◌ {A = ℕ} 0 1 = cc in absurd (omega arith)
-ranked_lowest None (Some broken) lower e = let n : ◌≡◌ {A = ℕ} 0 1 = cc in absurd (omega arith)
-ranked_lowest (Some refusal) broken lower e = let n : ◌≡◌ {A = ℕ} 0 1 = cc in absurd (omega arith)
 
 -- marks, and what they say of the prices of a result that stands
 module _
@@ -117,59 +101,69 @@ module _ (bs : List ℕ) (o : Outcome) (ps : List ℕ) (lent : ℕ) where
 
   pub answerable_ranked :
       (lower : Option ℕ) → Answerable bs o ps lent →
-      ranked (refusal_to_mark bs o ps lent) (broken_of (market_of bs) o ps) lower ≡ ranked None None lower
+      unless (objection_to (refusal_to_mark bs o ps lent) (broken_of (market_of bs) o ps)) lower ≡ Ok lower
   answerable_ranked lower a =
-      ap₂ (λ (refusal : Option Refusal) (broken : Option Broken). ranked refusal broken lower)
+      ap₂ (λ (refusal : Option Refusal) (broken : Option Broken). unless (objection_to refusal broken) lower)
       a.taken (none_broken (market_of bs) o ps a.feasible a.settled)
 
 -- what is left in the marks and the answer that they give fix the answer's meaning
 module _
-    (bs : List ℕ) (o : Outcome) (ps old new : List ℕ) (left : Left bs o ps old new) (r : Lowness)
+    (bs : List ℕ) (o : Outcome) (ps old new : List ℕ) (left : Left bs o ps old new) (r : Result (Option ℕ) Objection)
     (is : r ≡ lowness_of bs o ps (length old) new)
   where
     pub lower_exactly :
-        (z : ℕ) → Exactly (r ≡ lowness.Lower z) (Answerable bs o ps (length old) × FirstLower (market_of bs) o ps z)
+        (z : ℕ) → Exactly (r ≡ Ok (Some z)) (Answerable bs o ps (length old) × FirstLower (market_of bs) o ps z)
     lower_exactly z = (means, since)
       where
-        means : r ≡ lowness.Lower z → Answerable bs o ps (length old) × FirstLower (market_of bs) o ps z
+        means : r ≡ Ok (Some z) → Answerable bs o ps (length old) × FirstLower (market_of bs) o ps z
         means e =
-            let parts = ranked_lower _ _ (unmarked (market_of bs) new) z (sym is ∙ e) in
+            let parts = unobjected (unmarked (market_of bs) new) (Some z) _ _ (sym is ∙ e) in
             let a = answerable_from bs o ps (length old) parts.0 parts.1 in (
               a,
               first_lower (market_of bs) o ps old new (answerable_proper bs o ps (length old) a) a.feasible a.settled
                   (left.marked a) z parts.2,
             )
 
-        since : Answerable bs o ps (length old) × FirstLower (market_of bs) o ps z → r ≡ lowness.Lower z
+        since : Answerable bs o ps (length old) × FirstLower (market_of bs) o ps z → r ≡ Ok (Some z)
         since known =
             let a = known.0 in
             is
             ∙ (answerable_ranked bs o ps (length old) _ a
-            ∙ ap (ranked None None)
+            ∙ ap Ok
             (unmarked_first (market_of bs) o ps old new (answerable_proper bs o ps (length old) a) a.feasible a.settled
             (left.marked a) z known.1))
 
     pub lowest_exactly :
-        Exactly (r ≡ lowness.Lowest) (Answerable bs o ps (length old) × prices.Lowest (market_of bs) ps)
+        Exactly (r ≡ Ok None) (Answerable bs o ps (length old) × prices.Lowest (market_of bs) ps)
     lowest_exactly = (means, since)
       where
-        means : r ≡ lowness.Lowest → Answerable bs o ps (length old) × prices.Lowest (market_of bs) ps
+        means : r ≡ Ok None → Answerable bs o ps (length old) × prices.Lowest (market_of bs) ps
         means e =
-            let parts = ranked_lowest _ _ (unmarked (market_of bs) new) (sym is ∙ e) in
+            let parts = unobjected (unmarked (market_of bs) new) None _ _ (sym is ∙ e) in
             let a = answerable_from bs o ps (length old) parts.0 parts.1 in (
               a,
               lowest (market_of bs) o ps old new (answerable_proper bs o ps (length old) a) a.feasible a.settled
                   (left.marked a) parts.2,
             )
 
-        since : Answerable bs o ps (length old) × prices.Lowest (market_of bs) ps → r ≡ lowness.Lowest
+        since : Answerable bs o ps (length old) × prices.Lowest (market_of bs) ps → r ≡ Ok None
         since known =
             let a = known.0 in
             is
             ∙ (answerable_ranked bs o ps (length old) _ a
-            ∙ ap (ranked None None)
+            ∙ ap Ok
             (unmarked_none (market_of bs) o ps old new (answerable_proper bs o ps (length old) a) a.feasible a.settled
             (left.marked a) known.1))
+
+-- a broken rule is an objection
+abbrev pub objected : {A : Type 0} → Result A Broken → Result A Objection
+objected (Ok x) = Ok x
+objected (Err broken) = Err (objections.Broken broken)
+
+objected_unless :
+    {A : Type 0} (broken : Option Broken) (x : A) → objected (unless broken x) ≡ unless (objection_to None broken) x
+objected_unless None x = refl
+objected_unless (Some broken) x = refl
 
 -- of an hour that is not refused, and is seen in its bytes
 module _ (bs : List ℕ) (o : Outcome) (ps old new : List ℕ) where
@@ -194,10 +188,13 @@ module _ (bs : List ℕ) (o : Outcome) (ps old new : List ℕ) where
       left_taken taken (subst (λ (cs : List ℕ). LeftIn (market_of cs) o ps old new) same inner)
 
   pub answer_late :
-      (seen : List ℕ) (r : Lowness) → seen ≡ bs → None ≡ refusal_to_mark bs o ps (length old) →
-      r ≡ ranked None (broken_of (market_of seen) o ps) (unmarked (market_of seen) new) →
-      r ≡ lowness_of bs o ps (length old) new
+      (seen : List ℕ) (r : Result (Option ℕ) Broken) → seen ≡ bs → None ≡ refusal_to_mark bs o ps (length old) →
+      r ≡ unless (broken_of (market_of seen) o ps) (unmarked (market_of seen) new) →
+      objected r ≡ lowness_of bs o ps (length old) new
   answer_late seen r same taken is =
-      is
-      ∙ (ap (λ (cs : List ℕ). ranked None (broken_of (market_of cs) o ps) (unmarked (market_of cs) new)) same
-      ∙ ap (λ (refusal : Option Refusal). ranked refusal (broken_of (market_of bs) o ps) (unmarked (market_of bs) new)) taken)
+      ap objected
+      (is ∙ ap (λ (cs : List ℕ). unless (broken_of (market_of cs) o ps) (unmarked (market_of cs) new)) same)
+      ∙ (objected_unless (broken_of (market_of bs) o ps) (unmarked (market_of bs) new)
+      ∙ ap
+      (λ (refusal : Option Refusal). unless (objection_to refusal (broken_of (market_of bs) o ps)) (unmarked (market_of bs) new))
+      taken)

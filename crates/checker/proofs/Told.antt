@@ -1,7 +1,6 @@
 -- What is said of a text. Assumes nothing.
-use Rattle.std.proofs.Common.{◌≡◌, ℕ, eqb, List, Some, None, Option, sym, refl, ap, ◌∙◌}
-use Rattle.hour.specs.First.{when, first}
-use Rattle.hour.specs.Market.{Market, Outcome, Proper, at}
+use Rattle.std.proofs.Common.{◌≡◌, ℕ, List, Some, None, Option, sym, refl}
+use Rattle.hour.specs.Market.{Market, Outcome, Proper}
 use Rattle.checker.specs.declared.reports.Report.TheVariants as reports
 use Rattle.checker.specs.Acceptance.{broken_of}
 use Rattle.checker.specs.Marks.{unmarked, Marks}
@@ -20,13 +19,6 @@ module _
     lower_said (Some z) is =
         first_lower m o ps old new proper (feasible_from_none m o ps none) (settled_from_none m o ps none) marks z (sym is)
 
-    pub lower_found :
-        (lower : Option ℕ) (n : ℕ) → n ≡ m.zones → lower ≡ first n (λ z. when (eqb (at new z) 0) z) →
-        LowerSaid m o ps lower
-    lower_found lower n all is =
-        lower_said lower (is ∙ ap (λ (count : ℕ). first count (λ z. when (eqb (at new z) 0) z)) all)
-
-pub accepted_with :
-    (m : Market) (o : Outcome) (ps : List ℕ) (lower : Option ℕ) → LowerSaid m o ps lower →
-    AcceptedWith m o ps (reports.Accepted lower)
-accepted_with m o ps lower said = record { lower = lower; report = refl; said = said }
+    pub accepted_with :
+        (lower : Option ℕ) → lower ≡ unmarked m new → AcceptedWith m o ps (reports.Accepted lower)
+    accepted_with lower is = record { lower = lower; report = refl; said = lower_said lower is }

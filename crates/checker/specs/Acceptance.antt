@@ -12,13 +12,14 @@
 --   lent_refusal h o ps    the first lent slice too short for an hour with the head h: amounts bought 0, sold 1, flows 2,
 --                          prices 3
 --   refusal_to_check       what is refused: the head and the length of the hour, lent slices, the hour's items
---   judged                 the verdict, given what is refused and what is broken
+--   objection_to           what there is against a result, given what is refused and what is broken
+--   unless e x             x where there is no error
 --   verdict_of bs o ps     the verdict on an outcome and prices of the hour that the bytes say
 --   Stands bs o ps         nothing is refused, the outcome can be carried out, and the prices settle it
 --
 -- Lists may be longer than needed. Prices are any numbers.
 use Rattle.std.specs.Prelude.{◌≡◌, ℕ, ◌+◌, Bool, true, cond, not, List, length, Some, None, Ok, Err, Option, Result, ◌==◌, nat_lt}
-use Rattle.hour.specs.Bytes.{head_fault, head_of, market_of, refusal_with}
+use Rattle.hour.specs.Bytes.{head_of, market_of, refusal_with}
 use Rattle.hour.specs.First.{when, ◌else◌, first}
 use Rattle.hour.specs.Market.{Market, Outcome, Feasible, Settled, at, bid, line, in_zone, into, out_of}
 use Rattle.hour.specs.Rules.{lent_fault}
@@ -32,8 +33,8 @@ use Rattle.network.specs.Tables.{outcome_in}
 use Rattle.network.specs.declared.tables.Amounts.{Amounts}
 use Rattle.checker.specs.declared.verdict.Broken.{Broken}
 use Rattle.checker.specs.declared.verdict.Broken.TheVariants.{TooLarge, NotAllowed, Unbalanced}
-use Rattle.checker.specs.declared.verdict.Verdict.{Verdict}
-use Rattle.checker.specs.declared.verdict.Verdict.TheVariants as verdicts
+use Rattle.checker.specs.declared.verdict.Objection.{Objection}
+use Rattle.checker.specs.declared.verdict.Objection.TheVariants as objections
 use Rattle.checker.specs.declared.claim.Claim.{Claim}
 use Rattle.checker.specs.declared.balance.Side.{Side}
 use Rattle.checker.specs.declared.balance.Side.TheVariants.{Sold, Into, Bought, OutOf}
@@ -131,25 +132,21 @@ lent_refusal head o ps =
     else lent_fault 2 (length o.flow) head.lines
     else lent_fault 3 (length ps) head.zones
 
--- the head of an hour with which enough is lent
-abbrev pub unless_refused : Option Refusal → Head → Result Head Refusal
-unless_refused (Some refusal) head = Err refusal
-unless_refused None head = Ok head
-
-abbrev pub head_lent : List ℕ → Outcome → List ℕ → Result Head Refusal
-head_lent bs o ps = unless_refused (head_fault bs else lent_refusal (head_of bs) o ps) (head_of bs)
-
 abbrev pub refusal_to_check : List ℕ → Outcome → List ℕ → Option Refusal
 refusal_to_check bs o ps = refusal_with bs (lent_refusal (head_of bs) o ps)
 
 -- what is refused comes before what is broken
-abbrev pub judged : Option Refusal → Option Broken → Verdict
-judged (Some refusal) broken = verdicts.Refused refusal
-judged None (Some broken) = verdicts.Broken broken
-judged None None = verdicts.Accepted
+abbrev pub objection_to : Option Refusal → Option Broken → Option Objection
+objection_to (Some refusal) broken = Some (objections.Refused refusal)
+objection_to None (Some broken) = Some (objections.Broken broken)
+objection_to None None = None
 
-abbrev pub verdict_of : List ℕ → Outcome → List ℕ → Verdict
-verdict_of bs o ps = judged (refusal_to_check bs o ps) (broken_of (market_of bs) o ps)
+abbrev pub unless : {A E : Type 0} → Option E → A → Result A E
+unless (Some e) x = Err e
+unless None x = Ok x
+
+abbrev pub verdict_of : List ℕ → Outcome → List ℕ → Result (Unit {0}) Objection
+verdict_of bs o ps = unless (objection_to (refusal_to_check bs o ps) (broken_of (market_of bs) o ps)) tt
 
 pub record Stands (bs : List ℕ) (o : Outcome) (ps : List ℕ) : Type 0 where
   pub taken : refusal_to_check bs o ps ≡ None

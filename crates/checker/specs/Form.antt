@@ -154,7 +154,7 @@ said_seen t =
     saying (t.worth, t.pushes) (prices_seen t.zones) (table_seen t.buys) (table_seen t.sells) (table_seen t.lines)
 
 abbrev pub Stopped : {A : Type 0} → Stop → Result A ℕ → Type 0
-Stopped Memory d = Unit {0}
+Stopped (Memory error) d = Unit {0}
 Stopped (Line line) d = d ≡ Err line
 
 abbrev pub AnswersAs : {A B : Type 0} → Result A Stop → (A → B) → Result B ℕ → Type 0

@@ -9,17 +9,15 @@
 --   Left bs o ps old new    what is left in the lent marks: as they were, unless the question has an answer
 --   LowerFirst              the question has an answer, and z is the first zone that could be lower
 --   LowestAll               the question has an answer, and no list that settles is lower anywhere
-use Rattle.std.specs.Prelude.{◌≡◌, ℕ, ◌<◌, ◌≤◌, ◌⊎◌, List, length, Some, None, Option, ◌==◌}
+use Rattle.std.specs.Prelude.{◌≡◌, ℕ, ◌<◌, ◌≤◌, ◌⊎◌, List, length, None, Option, Result, ◌==◌}
 use Rattle.hour.specs.Bytes.{head_of, market_of, refusal_with}
 use Rattle.hour.specs.First.{when, ◌else◌, first}
 use Rattle.hour.specs.Market.{Market, Outcome, Feasible, Settled, at}
 use Rattle.hour.specs.Rules.{lent_fault}
 use Rattle.hour.specs.declared.refusals.Refusal.{Refusal}
 use Rattle.network.specs.Prices.{Lowest}
-use Rattle.checker.specs.declared.verdict.Broken.{Broken}
-use Rattle.checker.specs.declared.verdict.Lowness.{Lowness}
-use Rattle.checker.specs.declared.verdict.Lowness.TheVariants as lowness
-use Rattle.checker.specs.Acceptance.{lent_refusal, broken_of}
+use Rattle.checker.specs.declared.verdict.Objection.{Objection}
+use Rattle.checker.specs.Acceptance.{lent_refusal, broken_of, objection_to, unless}
 use Rattle.checker.specs.Holding.{Held, FirstLower}
 
 abbrev pub unmarked : Market → List ℕ → Option ℕ
@@ -37,16 +35,9 @@ abbrev pub refusal_to_mark : List ℕ → Outcome → List ℕ → ℕ → Optio
 refusal_to_mark bs o ps lent =
     refusal_with bs (lent_refusal (head_of bs) o ps else lent_fault 4 lent (head_of bs).zones)
 
--- what is refused comes before what is broken, and that before prices
-abbrev pub ranked : Option Refusal → Option Broken → Option ℕ → Lowness
-ranked (Some refusal) broken lower = lowness.Refused refusal
-ranked None (Some broken) lower = lowness.Broken broken
-ranked None None (Some zone) = lowness.Lower zone
-ranked None None None = lowness.Lowest
-
-abbrev pub lowness_of : List ℕ → Outcome → List ℕ → ℕ → List ℕ → Lowness
+abbrev pub lowness_of : List ℕ → Outcome → List ℕ → ℕ → List ℕ → Result (Option ℕ) Objection
 lowness_of bs o ps lent marks =
-    ranked (refusal_to_mark bs o ps lent) (broken_of (market_of bs) o ps) (unmarked (market_of bs) marks)
+    unless (objection_to (refusal_to_mark bs o ps lent) (broken_of (market_of bs) o ps)) (unmarked (market_of bs) marks)
 
 pub record Answerable (bs : List ℕ) (o : Outcome) (ps : List ℕ) (lent : ℕ) : Type 0 where
   pub taken : refusal_to_mark bs o ps lent ≡ None

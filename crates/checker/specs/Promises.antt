@@ -12,7 +12,7 @@
 --   ReadBack             what is published of an outcome and its prices is read as just that
 --
 -- Of two sides of an order, what is subtracted stands on the other side: naturals only.
-use Rattle.std.specs.Prelude.{◌≡◌, ℕ, ◌+◌, ◌^◌, ◌<◌, ◌≤◌, List, length, None, Ok}
+use Rattle.std.specs.Prelude.{◌≡◌, ℕ, ◌+◌, ◌^◌, ◌<◌, ◌≤◌, List, length, None, Ok, Option, Result}
 use Rattle.hour.specs.Bytes.{market_of, refusal_of}
 use Rattle.hour.specs.Listed.{listed}
 use Rattle.hour.specs.Market.{Market, Outcome, Feasible, Settled, at, worth}
@@ -33,13 +33,11 @@ use Rattle.checker.specs.Marks.{lowness_of, Left}
 use Rattle.checker.specs.Telling.{Reports}
 use Rattle.checker.specs.declared.reports.Report.{Report}
 use Rattle.checker.specs.declared.reports.Report.TheVariants as reports
-use Rattle.checker.specs.declared.verdict.Verdict.TheVariants.{Accepted}
-use Rattle.checker.specs.declared.verdict.Lowness.{Lowness}
-use Rattle.checker.specs.declared.verdict.Lowness.TheVariants as lowness
+use Rattle.checker.specs.declared.verdict.Objection.{Objection}
 
 abbrev pub AcceptedBest : Type 0
 AcceptedBest =
-    (bs : List ℕ) (o p : Outcome) (ps : List ℕ) → verdict_of bs o ps ≡ Accepted → Feasible (market_of bs) p →
+    (bs : List ℕ) (o p : Outcome) (ps : List ℕ) → verdict_of bs o ps ≡ Ok tt → Feasible (market_of bs) p →
     worth (market_of bs).buys p.bought + worth (market_of bs).sells o.sold
     ≤ worth (market_of bs).buys o.bought + worth (market_of bs).sells p.sold
 
@@ -53,12 +51,12 @@ pub record Published (bs : List ℕ) (o : Outcome) (ps : List ℕ) : Type 0 wher
   pub settled : Settled (market_of bs) o ps
 
 abbrev pub PublishedAccepted : Type 0
-PublishedAccepted = (bs : List ℕ) (o : Outcome) (ps : List ℕ) → Published bs o ps → verdict_of bs o ps ≡ Accepted
+PublishedAccepted = (bs : List ℕ) (o : Outcome) (ps : List ℕ) → Published bs o ps → verdict_of bs o ps ≡ Ok tt
 
 abbrev pub LowestFound : Type 0
 LowestFound =
     (bs : List ℕ) (o : Outcome) (ps old new : List ℕ) → Published bs o ps → Lowest (market_of bs) ps →
-    (market_of bs).zones ≤ length old → Left bs o ps old new → lowness_of bs o ps (length old) new ≡ lowness.Lowest
+    (market_of bs).zones ≤ length old → Left bs o ps old new → lowness_of bs o ps (length old) new ≡ Ok None
 
 -- what stands in the slices of the entry
 abbrev pub outcome_left : Slices → Outcome
@@ -67,22 +65,22 @@ outcome_left new = outcome_in new.bought new.sold new.flow
 abbrev pub HouseAccepted : Type 0
 HouseAccepted =
     (bs : List ℕ) (old new : Slices) (n : ℕ) → Answer bs old (Ok n) new →
-    verdict_of bs (outcome_left new) new.price ≡ Accepted
+    verdict_of bs (outcome_left new) new.price ≡ Ok tt
 
 abbrev pub HouseLowest : Type 0
 HouseLowest =
     (bs : List ℕ) (old new : Slices) (n : ℕ) → Answer bs old (Ok n) new → (marks after : List ℕ) →
     (market_of bs).zones ≤ length marks → Left bs (outcome_left new) new.price marks after →
-    lowness_of bs (outcome_left new) new.price (length marks) after ≡ lowness.Lowest
+    lowness_of bs (outcome_left new) new.price (length marks) after ≡ Ok None
 
 -- an answer about prices, with the marks that are left
-pub record Answers (bs : List ℕ) (o : Outcome) (ps old new : List ℕ) (r : Lowness) : Type 0 where
+pub record Answers (bs : List ℕ) (o : Outcome) (ps old new : List ℕ) (r : Result (Option ℕ) Objection) : Type 0 where
   pub answer : r ≡ lowness_of bs o ps (length old) new
   pub left : Left bs o ps old new
 
 abbrev pub OneLowness : Type 0
 OneLowness =
-    (bs : List ℕ) (o : Outcome) (ps old new other : List ℕ) (r s : Lowness) → Answers bs o ps old new r →
+    (bs : List ℕ) (o : Outcome) (ps old new other : List ℕ) (r s : Result (Option ℕ) Objection) → Answers bs o ps old new r →
     Answers bs o ps old other s → (new ≡ other) × (r ≡ s)
 
 -- what a text says of a sort

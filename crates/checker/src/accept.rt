@@ -1,16 +1,15 @@
 // The first rule that a published result breaks.
-ghost use Rattle.std.specs.Prelude.{◌≡◌, ◌<◌, None};
+ghost use Rattle.std.specs.Prelude.{◌≡◌, ◌<◌, Ok};
 ghost use Rattle.std.specs.Result.{result_err};
 ghost use Rattle.network.specs.Tables.{outcome_in};
 ghost use Rattle.checker.specs.Acceptance.{market_seen, outcome_given, claimed, item_broken, buy_broken, sell_broken, line_broken};
 ghost use Rattle.checker.specs.Acceptance.{sort_count, sort_broken, first_broken, broken_of};
-ghost use Rattle.checker.specs.Acceptance.{refusal_to_check, judged, verdict_of, Stands, Exactly};
-ghost use Rattle.checker.specs.declared.verdict.Verdict.TheVariants.{Accepted};
+ghost use Rattle.checker.specs.Acceptance.{verdict_of, Stands, Exactly};
 
 use crate::claim::Claim;
-use crate::lent::read_with;
-use crate::verdict::{Broken, Verdict};
-use hour::{Hour, Refusal, Sort, check_items};
+use crate::lent::hour_to_check;
+use crate::verdict::{Broken, Objection};
+use hour::Sort;
 use network::settled::content;
 use network::{Amounts, number_at};
 
@@ -130,26 +129,6 @@ impl Claim<'_> {
     }
 }
 
-// What is refused before a result is looked at: the head and the length of the hour, lent slices, the hour's items.
-fn refusal_to_check(bytes: &[u8], o: Amounts, prices: &[u64]) -> Option<Refusal>
-    ensures { result ≡ refusal_to_check bytes.now (outcome_given o.entry) prices.now }
-{
-    match read_with(bytes, o, prices) {
-        Ok(head) => check_items(bytes, head),
-        Err(refusal) => Some(refusal),
-    }
-}
-
-// The verdict on a result of an hour that is not refused.
-fn judge(claim: Claim<'_>) -> Verdict
-    ensures { result ≡ judged None (claimed broken_of claim.entry) }
-{
-    match claim.check() {
-        Ok(()) => Verdict::Accepted,
-        Err(broken) => Verdict::Broken(broken),
-    }
-}
-
 // Whether a published result stands: its amounts and flows can be carried out, and its prices settle them. Slices may be longer
 // than needed; nothing is assumed of what they hold.
 pub fn check<'a>(
@@ -158,26 +137,26 @@ pub fn check<'a>(
     sold: &'a [u64],
     flow: &'a [u64],
     prices: &[u64],
-) -> Verdict
+) -> Result<(), Objection>
     ensures answer { result
         ≡ verdict_of
         bytes.now
         (outcome_in bought.now sold.now flow.now)
         prices.now }
     ensures accepted { Exactly
-        (result ≡ Accepted)
+        (result ≡ Ok tt)
         (Stands
         bytes.now
         (outcome_in bought.now sold.now flow.now)
         prices.now) }
 {
-    let o = Amounts { bought, sold, flow };
-    match refusal_to_check(bytes, o, prices) {
-        Some(refusal) => Verdict::Refused(refusal),
-        None => judge(Claim {
-            hour: Hour::of(bytes),
-            amounts: o,
-            prices,
-        }),
-    }
+    let amounts = Amounts { bought, sold, flow };
+    let hour = hour_to_check(bytes, amounts, prices)?;
+    let claim = Claim {
+        hour,
+        amounts,
+        prices,
+    };
+    claim.check()?;
+    Ok(())
 }

@@ -1,12 +1,14 @@
 // Reading a published text, row by row.
 ghost use Rattle.std.specs.Prelude.{◌≡◌, ◌+◌, ◌^◌, ◌<◌};
+ghost use Rattle.std.specs.declared.alloc.AllocError.{AllocError};
+ghost use Rattle.checker.specs.declared.form.Stop.TheVariants.{Memory};
 ghost use Rattle.checker.specs.Reading.{seen};
 ghost use Rattle.checker.specs.Form.{phrasing, phrased, worth_at, zone_at, row_at, item_at, zones_at, items_at};
 ghost use Rattle.checker.specs.Form.{last_line, text_at, prices_seen, table_seen, said_seen, AnswersAs};
 
 use crate::reading::{after, amount, index, price, whole};
 use hour::Sort;
-use std::alloc::Global;
+use std::alloc::{AllocError, AllocFailed, Global};
 
 // What stands around the numbers in a row of a sort.
 #[derive(Clone, Copy)]
@@ -82,8 +84,16 @@ fn item_row<'a>(sort: Sort, k: usize, bytes: &'a [u8]) -> Option<((u64, i128), &
 // Why a text is not read: memory is wanting, or this line is not in the form.
 #[derive(Clone, Copy)]
 pub enum Stop {
-    Memory,
+    Memory(AllocError),
     Line(usize),
+}
+
+impl<T: Drop> From<AllocFailed<T>> for Stop {
+    ghost from_gives = { λ _ stop. (error : AllocError) × (stop ≡ Memory error) };
+
+    fn from(failed: AllocFailed<T>) -> Stop {
+        Stop::Memory(AllocError::from(failed))
+    }
 }
 
 // What the rows of the zones say, and the text behind them.
@@ -109,12 +119,8 @@ fn zone_rows<'a>(heap: Global, line: usize, n: usize, bytes: &'a [u8]) -> Result
     let mut prices = Vec::new(heap);
     let mut rest = bytes;
     for zone in 0..n {
-        let Some((price, behind)) = zone_row(zone, rest) else {
-            return Err(Stop::Line(line + zone));
-        };
-        if prices.push(price).is_err() {
-            return Err(Stop::Memory);
-        }
+        let (price, behind) = zone_row(zone, rest).ok_or(Stop::Line(line + zone))?;
+        prices.push(price)?;
         rest = behind;
     }
     Ok(Zones { prices, rest })
@@ -135,15 +141,9 @@ fn item_rows<'a>(
     let mut moneys = Vec::new(heap);
     let mut rest = bytes;
     for k in 0..n {
-        let Some(((amount, money), behind)) = item_row(sort, k, rest) else {
-            return Err(Stop::Line(line + k));
-        };
-        if amounts.push(amount).is_err() {
-            return Err(Stop::Memory);
-        }
-        if moneys.push(money).is_err() {
-            return Err(Stop::Memory);
-        }
+        let ((amount, money), behind) = item_row(sort, k, rest).ok_or(Stop::Line(line + k))?;
+        amounts.push(amount)?;
+        moneys.push(money)?;
         rest = behind;
     }
     Ok(Rows {
@@ -178,9 +178,7 @@ pub fn read_text<'a>(heap: Global, n: Counts, bytes: &'a [u8]) -> Result<Said<'a
     requires { last_line n < 2 ^ 64 }
     ensures { AnswersAs result said_seen (text_at n bytes.now) }
 {
-    let Some(((worth, pushes), rest)) = worth_row(bytes) else {
-        return Err(Stop::Line(1));
-    };
+    let ((worth, pushes), rest) = worth_row(bytes).ok_or(Stop::Line(1))?;
     let zones = zone_rows(heap, 2, n.zones, rest)?;
     let line = 2 + n.zones;
     let buys = item_rows(heap, Sort::Buy, line, n.buys, zones.rest)?;

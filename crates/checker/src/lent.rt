@@ -1,39 +1,68 @@
-// What is refused before a result is looked at: the head of the hour, and lent slices that are too short.
-ghost use Rattle.std.specs.Prelude.{◌≡◌};
-ghost use Rattle.checker.specs.Acceptance.{outcome_given, lent_refusal, head_lent};
+// The hour of a published result; refused are its head and its length, lent slices that are too short, and its items.
+ghost use Rattle.std.specs.Prelude.{◌≡◌, ◌≤◌, IfOk};
+ghost use Rattle.std.specs.Result.{result_err};
+ghost use Rattle.hour.specs.First.{◌else◌};
+ghost use Rattle.hour.specs.Rules.{lent_fault};
+ghost use Rattle.checker.specs.Acceptance.{outcome_given, lent_refusal, refusal_to_check};
+ghost use Rattle.checker.specs.Marks.{refusal_to_mark};
 
-use hour::{Head, Refusal, check_lent, read_head};
+use hour::{Head, Hour, Refusal, check_items, check_lent, read_head};
 use network::Amounts;
 
 // The first lent slice that is too short for an hour with this head.
-fn check_slices(head: Head, o: Amounts, prices: &[u64]) -> Option<Refusal>
-    ensures { result ≡ lent_refusal head (outcome_given o.entry) prices.now }
+fn check_slices(head: Head, amounts: Amounts, prices: &[u64]) -> Result<(), Refusal>
+    ensures { result_err result ≡ lent_refusal head (outcome_given amounts.entry) prices.now }
 {
-    let fault = check_lent(0, o.bought.len(), head.buys as usize);
-    if fault.is_some() {
-        return fault;
-    }
-    let fault = check_lent(1, o.sold.len(), head.sells as usize);
-    if fault.is_some() {
-        return fault;
-    }
-    let fault = check_lent(2, o.flow.len(), head.lines as usize);
-    if fault.is_some() {
-        return fault;
-    }
+    check_lent(0, amounts.bought.len(), head.buys as usize)?;
+    check_lent(1, amounts.sold.len(), head.sells as usize)?;
+    check_lent(2, amounts.flow.len(), head.lines as usize)?;
     check_lent(3, prices.len(), head.zones as usize)
 }
 
-// The head of an hour with which enough is lent.
-pub fn read_with(bytes: &[u8], o: Amounts, prices: &[u64]) -> Result<Head, Refusal>
-    ensures { result ≡ head_lent bytes.now (outcome_given o.entry) prices.now }
+// The same, and the marks.
+fn check_slices_and_marks(
+    head: Head,
+    amounts: Amounts,
+    prices: &[u64],
+    lent: usize,
+) -> Result<(), Refusal>
+    ensures { result_err result
+        ≡ (lent_refusal head (outcome_given amounts.entry) prices.now else lent_fault 4 lent head.zones) }
 {
-    let head = match read_head(bytes) {
-        Ok(head) => head,
-        Err(refusal) => return Err(refusal),
-    };
-    match check_slices(head, o, prices) {
-        Some(refusal) => Err(refusal),
-        None => Ok(head),
-    }
+    check_slices(head, amounts, prices)?;
+    check_lent(4, lent, head.zones as usize)
+}
+
+// The hour whose result is looked at.
+pub fn hour_to_check<'a>(
+    bytes: &'a [u8],
+    amounts: Amounts,
+    prices: &[u64],
+) -> Result<Hour<'a>, Refusal>
+    ensures refused { result_err result
+        ≡ refusal_to_check bytes.now (outcome_given amounts.entry) prices.now }
+    ensures hour { IfOk result (λ hour. hour.bytes.now ≡ bytes.now) }
+{
+    let head = read_head(bytes)?;
+    check_slices(head, amounts, prices)?;
+    check_items(bytes, head)?;
+    Ok(Hour::of(bytes))
+}
+
+// The hour whose prices are ranked, where so many numbers are lent for marks.
+pub fn hour_to_rank<'a>(
+    bytes: &'a [u8],
+    amounts: Amounts,
+    prices: &[u64],
+    lent: usize,
+) -> Result<Hour<'a>, Refusal>
+    ensures refused { result_err result
+        ≡ refusal_to_mark bytes.now (outcome_given amounts.entry) prices.now lent }
+    ensures hour { IfOk result (λ hour. hour.bytes.now ≡ bytes.now) }
+    ensures enough { IfOk result (λ hour. hour.zones ≤ lent) }
+{
+    let head = read_head(bytes)?;
+    check_slices_and_marks(head, amounts, prices, lent)?;
+    check_items(bytes, head)?;
+    Ok(Hour::of(bytes))
 }

@@ -21,4 +21,4 @@ pub use form::{Counts, Rows, Said, Stop, Zones, read_text};
 pub use ranking::lowest;
 pub use reports::{Report, Wrong};
 pub use telling::report_on;
-pub use verdict::{Broken, Lowness, Verdict};
+pub use verdict::{Broken, Objection};

@@ -1,9 +1,8 @@
 // Marks for the zones whose price is held up.
-ghost use Rattle.std.specs.Prelude.{◌≡◌, ℕ, ◌<◌, ◌≤◌, length, ◌==◌};
-ghost use Rattle.hour.specs.First.{when, first};
+ghost use Rattle.std.specs.Prelude.{◌≡◌, ℕ, ◌<◌, ◌≤◌, length};
 ghost use Rattle.hour.specs.Market.{at};
 ghost use Rattle.checker.specs.Acceptance.{market_seen, outcome_given};
-ghost use Rattle.checker.specs.Marks.{Marks};
+ghost use Rattle.checker.specs.Marks.{Marks, unmarked};
 ghost use Rattle.checker.specs.Seeking.{Wiped};
 
 use crate::claim::Claim;
@@ -31,7 +30,7 @@ impl Claim<'_> {
         }
     }
 
-    pub fn mark_held(self, marks: &mut [u64])
+    fn mark_held(self, marks: &mut [u64])
         requires { self.hour.zones ≤ length marks.old }
         ensures { Marks
             (market_seen self.entry.hour) (outcome_given self.entry.amounts) self.entry.prices.now
@@ -40,11 +39,16 @@ impl Claim<'_> {
         wipe(marks, self.hour.zones() as usize);
         self.mark_bare(marks);
     }
-}
 
-// The first zone without a mark.
-pub fn find_unmarked(zones: usize, marks: &[u64]) -> Option<usize>
-    ensures { result ≡ first zones (λ z. when ((at marks.now z) == 0) z) }
-{
-    (0..zones).find(|z| number_at(marks, *z) == 0)
+    // The zones whose price is held up are marked, and the first that is not could be lower.
+    pub fn find_lower(self, marks: &mut [u64]) -> Option<usize>
+        requires { self.hour.zones ≤ length marks.old }
+        ensures value { result ≡ unmarked (market_seen self.entry.hour) marks.new }
+        ensures marked { Marks
+            (market_seen self.entry.hour) (outcome_given self.entry.amounts) self.entry.prices.now
+            marks.old marks.new }
+    {
+        self.mark_held(marks);
+        (0..self.hour.zones() as usize).find(|z| number_at(marks, *z) == 0)
+    }
 }

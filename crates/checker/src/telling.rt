@@ -5,14 +5,13 @@ ghost use Rattle.hour.specs.Market.{Feasible};
 ghost use Rattle.checker.specs.Acceptance.{market_seen, outcome_given, claimed, broken_of};
 ghost use Rattle.checker.specs.Follows.{wrong_in};
 ghost use Rattle.checker.specs.Form.{said_seen};
-ghost use Rattle.checker.specs.Telling.{LowerSaid, AcceptedWith, RowsAs, SaidAs, Reports};
+ghost use Rattle.checker.specs.Telling.{AcceptedWith, RowsAs, SaidAs, Reports};
 
 use crate::claim::Claim;
 use crate::follows::counts_in;
 use crate::form::{Said, Stop, read_text};
-use crate::marks::find_unmarked;
 use crate::reports::{Report, Wrong};
-use hour::{Hour, Sort, refusal};
+use hour::{Hour, Sort};
 use network::Amounts;
 use std::alloc::{AllocError, Global};
 
@@ -37,19 +36,8 @@ impl Claim<'_> {
         self.check_moneys(Sort::Line, line + n.sells, said.lines.moneys.as_slice())
     }
 
-    // Whether the prices of a result that breaks no rule are the lowest, or the first zone that could be lower.
-    fn find_lower(self, marks: &mut [u64]) -> Option<usize>
-        requires enough { self.hour.zones ≤ length marks.old }
-        requires free { claimed broken_of self ≡ None }
-        ensures { LowerSaid
-            (market_seen self.entry.hour) (outcome_given self.entry.amounts) self.entry.prices.now result }
-    {
-        self.mark_held(marks);
-        find_unmarked(self.hour.zones() as usize, marks)
-    }
-
     // What is said of a result that breaks no rule and whose rows follow.
-    fn rank(self, heap: Global) -> Result<Report, AllocError>
+    fn accept(self, heap: Global) -> Result<Report, AllocError>
         requires { claimed broken_of self ≡ None }
         ensures { IfOk
             result
@@ -75,7 +63,7 @@ impl Claim<'_> {
         if let Err(wrong) = self.check_rows(said) {
             return Ok(Report::Wrong(wrong));
         }
-        self.rank(heap)
+        self.accept(heap)
     }
 }
 
@@ -101,13 +89,13 @@ fn judge_said(heap: Global, hour: Hour<'_>, said: &Said<'_>) -> Result<Report, A
 pub fn report_on(heap: Global, bytes: &[u8], text: &[u8]) -> Result<Report, AllocError>
     ensures { IfOk result (Reports bytes.now text.now) }
 {
-    if let Some(refusal) = refusal(bytes) {
-        return Ok(Report::Refused(refusal));
-    }
-    let hour = Hour::of(bytes);
+    let hour = match Hour::try_from(bytes) {
+        Ok(hour) => hour,
+        Err(refusal) => return Ok(Report::Refused(refusal)),
+    };
     match read_text(heap, counts_in(hour), text) {
         Ok(said) => judge_said(heap, hour, &said),
         Err(Stop::Line(line)) => Ok(Report::Unreadable { line }),
-        Err(Stop::Memory) => Err(AllocError),
+        Err(Stop::Memory(error)) => Err(error),
     }
 }

@@ -1,6 +1,7 @@
-// What the checker answers: each case holds what was found, and where.
+// What the checker finds against a result: each case holds what was found, and where.
 ghost use Rattle.std.specs.Prelude.{◌≡◌};
 ghost use Rattle.checker.specs.Breach.{rule_of, sort_of, number_of};
+ghost use Rattle.checker.specs.declared.verdict.Objection.TheVariants as objections;
 
 use hour::{Refusal, Sort};
 
@@ -50,25 +51,27 @@ impl Broken {
     }
 }
 
+// Why there is no answer about a result.
 #[derive(Clone, Copy)]
-pub enum Verdict {
-    // The result can be carried out, and the prices settle it.
-    Accepted,
-    // The first rule that it breaks.
-    Broken(Broken),
+pub enum Objection {
     // The hour or a lent slice is refused.
     Refused(Refusal),
+    // The first rule that the result breaks.
+    Broken(Broken),
 }
 
-// Whether the prices of a result are the lowest that settle.
-#[derive(Clone, Copy)]
-pub enum Lowness {
-    // No list that settles is lower in any zone.
-    Lowest,
-    // The first zone that is lower in a list that settles.
-    Lower { zone: usize },
-    // The result breaks a rule.
-    Broken(Broken),
-    // The hour or a lent slice is refused.
-    Refused(Refusal),
+impl From<Refusal> for Objection {
+    ghost from_gives = { λ refusal objection. objection ≡ objections.Refused refusal };
+
+    fn from(refusal: Refusal) -> Objection {
+        Objection::Refused(refusal)
+    }
+}
+
+impl From<Broken> for Objection {
+    ghost from_gives = { λ broken objection. objection ≡ objections.Broken broken };
+
+    fn from(broken: Broken) -> Objection {
+        Objection::Broken(broken)
+    }
 }

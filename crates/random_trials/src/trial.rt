@@ -4,7 +4,7 @@ use crate::others::{KINDS, other};
 use crate::rules::{Outcome, carried_out, settled, worth};
 use crate::search::{Found, Pair, search};
 use crate::small::Small;
-use checker::{Lowness, Verdict, check, lowest};
+use checker::{Objection, check, lowest};
 use hour::read_head;
 use ledger::published;
 use lent::{Lent, Sizes};
@@ -93,20 +93,17 @@ fn worth_alike(
 }
 
 fn accepts(bytes: &[u8], pair: &Pair) -> bool {
-    let verdict = check(
+    let answer = check(
         bytes,
         pair.outcome.bought.as_slice(),
         pair.outcome.sold.as_slice(),
         pair.outcome.flow.as_slice(),
         pair.prices.as_slice(),
     );
-    match verdict {
-        Verdict::Accepted => true,
-        Verdict::Broken(_) | Verdict::Refused(_) => false,
-    }
+    answer.is_ok()
 }
 
-fn rank(bytes: &[u8], pair: &Pair) -> Lowness {
+fn rank(bytes: &[u8], pair: &Pair) -> Result<Option<usize>, Objection> {
     let mut marks: [u64; 3] = [7, 7, 7];
     lowest(
         bytes,
@@ -132,10 +129,9 @@ fn first_above(prices: &[u64], lowest: &[u64]) -> Option<usize> {
 fn ranked_alike(bytes: &[u8], pair: &Pair, stands: bool, found: &Found) -> bool {
     let above = first_above(pair.prices.as_slice(), found.lowest.as_slice());
     match rank(bytes, pair) {
-        Lowness::Lowest => stands && above.is_none(),
-        Lowness::Lower { zone } => stands && above == Some(zone),
-        Lowness::Broken(_) => !stands,
-        Lowness::Refused(_) => false,
+        Ok(lower) => stands && above == lower,
+        Err(Objection::Broken(_)) => !stands,
+        Err(Objection::Refused(_)) => false,
     }
 }
 

@@ -1,0 +1,12 @@
+use Rattle.checker.specs.Acceptance.{market_seen, outcome_given}
+use Rattle.checker.proofs.Rules.{proper_seen}
+use Rattle.checker.proofs.Told.{accepted_with}
+use Rattle.checker.proofs.claim.Claim.accept.Goals as goal
+
+pub returns : goal.returns
+returns c =
+    let claim = c.args.self in
+    let hour = claim.hour in
+    accepted_with (market_seen hour) (outcome_given claim.amounts) claim.prices.now _ _
+    (proper_seen hour.bytes.now hour.kept) c.requires c.find_lower-lower.ensures.marked _
+    c.find_lower-lower.ensures.value
