@@ -1,5 +1,5 @@
 -- The first number that passes a test. Assumes nothing.
-use Rattle.std.proofs.Common.{◌≡◌, ℕ, zero, suc, ◌+◌, ◌<◌, ◌≤◌, Bool, true, false, is_some, Some, None, Option, MatchOption, sym, refl, ap, ◌∙◌, inl, inr, arith}
+use Rattle.std.proofs.Common.{◌≡◌, ℕ, zero, suc, ◌<◌, ◌≤◌, Bool, true, false, is_some, Some, None, Option, MatchOption, sym, refl, ap, ◌∙◌, inl, inr, arith}
 use Rattle.std.proofs.lemmas.Bool.{cases_Bool, both_ways}
 use Rattle.std.proofs.lemmas.Iterator.{first_from_Range}
 use Rattle.std.proofs.iter.Yields.{nat_range_steps}
@@ -9,7 +9,7 @@ use Rattle.std.specs.Iterator.{FindsItem}
 use Rattle.std.specs.declared.ops.Range.{Range}
 use denote.Param.Members.{Mut}
 use Rattle.hour.specs.First.{when, ◌else◌, first}
-use Rattle.hour.proofs.First.{is_none, when_none, when_false, first_more, first_found, first_none, first_all}
+use Rattle.hour.proofs.First.{is_none, when_none, when_false, first_found, first_none, first_all}
 
 module _ (test : ℕ → Bool) where
   -- a loop that stops at the first that passes
@@ -19,10 +19,6 @@ module _ (test : ℕ → Bool) where
   first_here k n none below passes =
       let found : when (test k) k ≡ Some k = ap (λ (b : Bool). when b k) passes in
       sym (first_found (λ j. when (test j) j) k n below none (ap is_some found) ∙ found)
-
-  pub first_past :
-      (k : ℕ) → first k (λ j. when (test j) j) ≡ None → test k ≡ false → first (k + 1) (λ j. when (test j) j) ≡ None
-  first_past k none fails = first_more (λ j. when (test j) j) k none (when_false (test k) k fails)
 
   -- none was found: none passes, and the other way round
   pub none_passes : (n : ℕ) → first n (λ j. when (test j) j) ≡ None → (k : ℕ) → k < n → test k ≡ false

@@ -1,7 +1,8 @@
 -- Whatever is reported of the text that the house publishes is that it is accepted, and lowest. Assumes nothing.
-use Rattle.std.proofs.Common.{◌≡◌, ℕ, ◌+◌, ◌*◌, ◌^◌, ◌<◌, true, List, length, get_or, ℤ, pos, negsuc, ◌-ℤ◌, Some, None, Ok, Option, Result, sym, refl, ap, ◌∙◌, subst, ap₂, zero-add, arith}
+use Rattle.std.proofs.Common.{◌≡◌, ℕ, ◌+◌, ◌*◌, ◌^◌, ◌<◌, List, length, get_or, ℤ, pos, ◌-ℤ◌, Some, None, Ok, Option, Result, sym, ap, ◌∙◌, subst, ap₂, zero-add, arith}
 use Rattle.std.proofs.lemmas.List.FromFn.{get_or-map-range_with_len}
-use Rattle.std.proofs.lemmas.Bool.{eq-eqb, not_from_true}
+use Rattle.std.proofs.lemmas.Bool.Decides.{Decides-int_eq}
+use Rattle.std.proofs.lemmas.Bool.{not_from_true}
 use Rattle.hour.proofs.First.{else_none, when_false, first_all}
 use Rattle.hour.proofs.Kept.{kept}
 use Rattle.hour.proofs.Total.{total_same}
@@ -23,7 +24,7 @@ use Rattle.ledger.specs.Money.{item, count, worth_by}
 use Rattle.ledger.specs.Published as texts
 use Rattle.checker.proofs.Breaches.{none_broken}
 use Rattle.checker.proofs.TextBack.{read_back}
-use Rattle.checker.specs.Follows.{same_number, money_at, figure_wrong, rows_wrong, counts_in, outcome_said, wrong_in}
+use Rattle.checker.specs.Follows.{money_at, figure_wrong, rows_wrong, counts_in, outcome_said, wrong_in}
 use Rattle.checker.specs.Form.{Saying, text_at, first_line}
 use Rattle.checker.specs.Promises.{Says, table_of, HouseText}
 use Rattle.checker.specs.Telling.{LowerSaid, JudgedAs, SaidAs, ReadAs, ReportedAs}
@@ -35,13 +36,9 @@ use Rattle.checker.specs.declared.verdict.Broken.{Broken}
 listed_at : {A : Type 0} (n : ℕ) (f : ℕ → A) (k : ℕ) (d : A) → k < n → get_or (listed n f) k d ≡ f k
 listed_at n f k d below = get_or-map-range_with_len f 0 n k k d below (zero-add k)
 
-same_itself : (a : ℤ) → same_number a a ≡ true
-same_itself (pos a) = eq-eqb a a refl
-same_itself (negsuc a) = eq-eqb a a refl
-
 figure_follows : (line : ℕ) (figure : Option Sort) (a b : ℤ) → a ≡ b → figure_wrong line figure a b ≡ None
 figure_follows line figure a b same =
-    when_false _ _ (not_from_true _ (ap (λ (z : ℤ). same_number a z) (sym same) ∙ same_itself a))
+    when_false _ _ (not_from_true _ ((Decides-int_eq a b).1 same))
 
 worth_agree :
     (bs : List Bid) (xs ys : List ℕ) → ((k : ℕ) → k < length bs → at xs k ≡ at ys k) → worth bs xs ≡ worth bs ys
@@ -60,11 +57,11 @@ module _ (m : Market) (proper : Proper m) (o : Outcome) (ps : List ℕ) (n : ℕ
   said_prices : AgreePrices m ps t.zones.prices
   said_prices z below = sym (ap (λ (xs : List ℕ). at xs z) says.prices ∙ listed_at _ _ z 0 below)
 
-  rows_follow : (s : Sort) (line : ℕ) → rows_wrong m (outcome_said t) t.zones.prices s line (table_of t s).moneys ≡ None
-  rows_follow s line =
+  rows_follow : (s : Sort) → rows_wrong m (outcome_said t) t.zones.prices s (table_of t s).moneys ≡ None
+  rows_follow s =
       first_all _ (count m s)
       (λ k below.
-      figure_follows (line + k) (Some s) _ _
+      figure_follows (first_line (counts_in m) s + k) (Some s) _ _
       (sym (money_agree m ps t.zones.prices proper said_prices o (outcome_said t) said_agree (item s k) (among_item m s k below))
       ∙ sym (ap (λ (ds : List ℤ). money_at ds k) (says.moneys s) ∙ listed_at _ _ k (pos 0) below)))
 
@@ -79,9 +76,9 @@ module _ (m : Market) (proper : Proper m) (o : Outcome) (ps : List ℕ) (n : ℕ
       wrong_in m (outcome_said t) t.zones.prices t ≡ None
   none_wrong =
       else_none _ _ (figure_follows 1 None _ _ worth_follows)
-      ∙ (else_none _ _ (rows_follow sorts.Buy (first_line (counts_in m) sorts.Buy))
-      ∙ (else_none _ _ (rows_follow sorts.Sell (first_line (counts_in m) sorts.Sell))
-      ∙ rows_follow sorts.Line (first_line (counts_in m) sorts.Line)))
+      ∙ (else_none _ _ (rows_follow sorts.Buy)
+      ∙ (else_none _ _ (rows_follow sorts.Sell)
+      ∙ rows_follow sorts.Line))
 
   -- Idea: no rule is broken and every row follows, so it is accepted; and lowest prices could not be lower.
   said_stands : Feasible m o → Settled m o ps → Lowest m ps → (r : Report) → SaidAs m t r → r ≡ reports.Accepted None

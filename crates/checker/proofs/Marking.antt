@@ -1,5 +1,5 @@
 -- Zones are marked one after the other, until none without a mark is held up. Assumes nothing.
-use Rattle.std.proofs.Common.{◌≡◌, ℕ, ◌+◌, ◌-◌, ◌<◌, ◌≤◌, true, eqb, ◌≢◌, ◌⊎◌, List, length, set, is_some, Some, None, refl, ap, ◌∙◌, inl, inr, arith, get_or-set_other, get_or-set_same}
+use Rattle.std.proofs.Common.{◌≡◌, ℕ, ◌-◌, ◌<◌, ◌≤◌, true, eqb, ◌≢◌, ◌⊎◌, List, length, set, is_some, Some, None, refl, ap, ◌∙◌, inl, inr, arith, get_or-set_other, get_or-set_same}
 use Rattle.std.proofs.lemmas.List.{length-set}
 use Rattle.std.proofs.lemmas.Bool.{cases_eq, and_parts, and_from, or_cases, or_left, or_right, both_ways, eqb-true, eq-eqb, ltb-true, lt-ltb}
 use Rattle.hour.specs.Market.{Market, Outcome, Proper, at, line}
@@ -10,7 +10,7 @@ use Rattle.checker.specs.Holding.{BuyHolds, SellHolds, LineOut, LineIn, Held}
 use Rattle.checker.specs.Holding.Held.{at_none, by_buy, by_sell, by_line_out, by_line_in}
 use Rattle.checker.specs.Seeking.{buy_test, sell_test, out_test, in_test, sort_test, holder, held_test, new_test}
 use Rattle.checker.specs.Marks.{Marks}
-use Rattle.checker.specs.Seeking.{next_held, Wiped}
+use Rattle.checker.specs.Seeking.{next_held}
 use Rattle.checker.proofs.Firsts.{none_passes, found, some_found, some_passes}
 
 -- a zone has no mark yet, or has one and is held up; the other numbers are as they were
@@ -253,17 +253,3 @@ bare_falls m o ps marks z enough next =
     λ j other. ap (λ n. 1 - n) (get_or-set_other marks z j 1 0 other)
     in
     omega (arith, total_change m.zones z (λ j. 1 - at marks j) (λ j. 1 - at (set marks z 1) j) new.below others)
-
--- one more number at 0
-pub wiped_more : (n : ℕ) (old new : List ℕ) → n < length new → Wiped n old new → Wiped (n + 1) old (set new n 0)
-wiped_more n old new here wiped =
-    record {
-      front = λ k h.
-          elim (cases_eq k n) [
-            | inl same ↦ ap (at (set new n 0)) same ∙ get_or-set_same new n 0 0 here
-            | inr other ↦ get_or-set_other new n k 0 0 other ∙ wiped.front k (omega arith)
-          ];
-      past = λ k h.
-          let other : k ≢ n = omega arith in
-          get_or-set_other new n k 0 0 other ∙ wiped.past k (omega arith);
-    }

@@ -1,6 +1,5 @@
 -- Which rows of a text do not follow from its amounts and prices. Assumes nothing: these are definitions.
 --
---   same_number a b      whether two numbers are one
 --   money_at ds k        the money that row k of a sort says
 --   row_wrong            a row of money that is another than the amount and the prices make
 --   rows_wrong           the first of them in a sort
@@ -8,7 +7,8 @@
 --   counts_in m          how many of each a market has
 --   outcome_said t       the amounts and flows that a text says
 --   wrong_in m o ps t    the first row of what a text says that does not follow: the worth, buys, sells, lines
-use Rattle.std.specs.Prelude.{ℕ, ◌+◌, Bool, false, not, List, length, ℤ, pos, negsuc, Some, None, Option, ◌==◌, slice_index_or}
+use Rattle.std.specs.Prelude.{ℕ, ◌+◌, not, List, length, ℤ, pos, Some, None, Option, slice_index_or}
+use Rattle.std.specs.Ordering.{int_eq}
 use Rattle.hour.specs.First.{when, ◌else◌, first}
 use Rattle.hour.specs.Market.{Market, Outcome}
 use Rattle.hour.specs.declared.refusals.Sort.{Sort}
@@ -19,33 +19,28 @@ use Rattle.checker.specs.Form.{Saying, first_line}
 use Rattle.checker.specs.declared.form.Counts.{Counts}
 use Rattle.checker.specs.declared.reports.Wrong.{Wrong}
 
-abbrev pub same_number : ℤ → ℤ → Bool
-same_number (pos a) (pos b) = a == b
-same_number (pos a) (negsuc b) = false
-same_number (negsuc a) (pos b) = false
-same_number (negsuc a) (negsuc b) = a == b
-
 abbrev pub money_at : List ℤ → ℕ → ℤ
 money_at ds k = slice_index_or ds k (pos 0)
 
 -- a number that is written where another follows
 abbrev pub figure_wrong : ℕ → Option Sort → ℤ → ℤ → Option Wrong
 figure_wrong line figure follows written =
-    when (not (same_number follows written))
+    when (not (int_eq follows written))
     (record { line = line; figure = figure; follows = follows; written = written })
-
-abbrev pub row_wrong : Market → Outcome → List ℕ → Sort → ℕ → List ℤ → ℕ → Option Wrong
-row_wrong m o ps s line ds k = figure_wrong (line + k) (Some s) (money m o ps (item s k)) (money_at ds k)
-
-abbrev pub rows_wrong : Market → Outcome → List ℕ → Sort → ℕ → List ℤ → Option Wrong
-rows_wrong m o ps s line ds = first (count m s) (row_wrong m o ps s line ds)
-
-abbrev pub worth_wrong : Market → Outcome → ℤ → Option Wrong
-worth_wrong m o written = figure_wrong 1 None (worth_by m o) written
 
 abbrev pub counts_in : Market → Counts
 counts_in m =
     record { zones = m.zones; buys = length m.buys; sells = length m.sells; lines = length m.lines }
+
+abbrev pub row_wrong : Market → Outcome → List ℕ → Sort → List ℤ → ℕ → Option Wrong
+row_wrong m o ps s ds k =
+    figure_wrong (first_line (counts_in m) s + k) (Some s) (money m o ps (item s k)) (money_at ds k)
+
+abbrev pub rows_wrong : Market → Outcome → List ℕ → Sort → List ℤ → Option Wrong
+rows_wrong m o ps s ds = first (count m s) (row_wrong m o ps s ds)
+
+abbrev pub worth_wrong : Market → Outcome → ℤ → Option Wrong
+worth_wrong m o written = figure_wrong 1 None (worth_by m o) written
 
 abbrev pub outcome_said : Saying → Outcome
 outcome_said t = outcome_in t.buys.amounts t.sells.amounts t.lines.amounts
@@ -53,6 +48,6 @@ outcome_said t = outcome_in t.buys.amounts t.sells.amounts t.lines.amounts
 abbrev pub wrong_in : Market → Outcome → List ℕ → Saying → Option Wrong
 wrong_in m o ps t =
     worth_wrong m o t.worth
-    else rows_wrong m o ps sorts.Buy (first_line (counts_in m) sorts.Buy) t.buys.moneys
-    else rows_wrong m o ps sorts.Sell (first_line (counts_in m) sorts.Sell) t.sells.moneys
-    else rows_wrong m o ps sorts.Line (first_line (counts_in m) sorts.Line) t.lines.moneys
+    else rows_wrong m o ps sorts.Buy t.buys.moneys
+    else rows_wrong m o ps sorts.Sell t.sells.moneys
+    else rows_wrong m o ps sorts.Line t.lines.moneys

@@ -124,7 +124,12 @@ abbrev pub ended : {A : Type 0} → ℕ → List ℕ → A → Result A ℕ
 ended line [] x = Ok x
 ended line (b ∷ bs) x = Err line
 
--- the line at which the rows of a sort begin
+-- how many rows a sort has, and the line at which they begin
+abbrev pub rows_of : Counts → Sort → ℕ
+rows_of n sorts.Buy = n.buys
+rows_of n sorts.Sell = n.sells
+rows_of n sorts.Line = n.lines
+
 abbrev pub first_line : Counts → Sort → ℕ
 first_line n sorts.Buy = 2 + n.zones
 first_line n sorts.Sell = 2 + n.zones + n.buys

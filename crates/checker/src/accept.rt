@@ -7,6 +7,7 @@ ghost use Rattle.checker.specs.Acceptance.{sort_count, sort_broken, first_broken
 ghost use Rattle.checker.specs.Acceptance.{verdict_of, Stands, Exactly};
 
 use crate::claim::Claim;
+use crate::form::Counts;
 use crate::lent::hour_to_check;
 use crate::verdict::{Broken, Objection};
 use hour::Sort;
@@ -90,11 +91,7 @@ impl Claim<'_> {
     pub fn count(self, sort: Sort) -> usize
         ensures { result ≡ sort_count (market_seen self.entry.hour) sort }
     {
-        match sort {
-            Sort::Buy => self.hour.buys(),
-            Sort::Sell => self.hour.sells(),
-            Sort::Line => self.hour.lines(),
-        }
+        Counts::from(self.hour).rows(sort)
     }
 
     fn check_one(self, sort: Sort, k: usize) -> Result<(), Broken>

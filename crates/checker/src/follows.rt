@@ -6,7 +6,7 @@ ghost use Rattle.hour.specs.Rules.{max_amount};
 ghost use Rattle.network.specs.Network.{Among};
 ghost use Rattle.ledger.specs.Money.{owed, money, item, count};
 ghost use Rattle.checker.specs.Acceptance.{market_seen, outcome_given, claimed};
-ghost use Rattle.checker.specs.Follows.{same_number, money_at, figure_wrong, row_wrong, rows_wrong, worth_wrong, counts_in};
+ghost use Rattle.checker.specs.Follows.{money_at, figure_wrong, row_wrong, rows_wrong, worth_wrong, counts_in};
 
 use crate::claim::Claim;
 use crate::form::Counts;
@@ -15,16 +15,10 @@ use hour::{Hour, Sort};
 use ledger::{amount_of, item_of, price_above, price_below, worth_in};
 use network::Item;
 
-fn same_number(a: i128, b: i128) -> bool
-    ensures { result ≡ same_number a b }
-{
-    a == b
-}
-
 fn money_at(moneys: &[i128], k: usize) -> i128
     ensures { result ≡ money_at moneys.now k }
 {
-    if k < moneys.len() { moneys[k] } else { 0 }
+    moneys.get(k).copied().unwrap_or(0)
 }
 
 // So many units at one price less another, where prices may be any numbers of 64 bits.
@@ -44,7 +38,7 @@ fn check_figure(
 ) -> Result<(), Wrong>
     ensures { result_err result ≡ figure_wrong line figure follows written }
 {
-    if same_number(follows, written) {
+    if follows == written {
         return Ok(());
     }
     Err(Wrong {
@@ -76,37 +70,38 @@ impl Claim<'_> {
         check_figure(1, None, worth_in(self.hour, self.amounts) as i128, written)
     }
 
-    // The money of the k-th of a sort, whose rows begin at a line.
-    fn check_money(self, sort: Sort, line: usize, moneys: &[i128], k: usize) -> Result<(), Wrong>
+    // The money of the k-th of a sort.
+    fn check_money(self, sort: Sort, moneys: &[i128], k: usize) -> Result<(), Wrong>
         requires among { k < count (market_seen self.hour) sort }
         requires feasible { Feasible (market_seen self.hour) (outcome_given self.amounts) }
-        requires line { line + count (market_seen self.hour) sort < 2 ^ 64 }
-        ensures { result_err result ≡ claimed row_wrong self.entry sort line moneys.now k }
+        ensures { result_err result ≡ claimed row_wrong self.entry sort moneys.now k }
     {
+        let line = Counts::from(self.hour).first_line(sort) + k;
         let follows = self.money_due(item_of(sort, k));
-        check_figure(line + k, Some(sort), follows, money_at(moneys, k))
+        check_figure(line, Some(sort), follows, money_at(moneys, k))
     }
 
     // The first row of a sort whose money does not follow.
-    pub fn check_moneys(self, sort: Sort, line: usize, moneys: &[i128]) -> Result<(), Wrong>
-        requires feasible { Feasible (market_seen self.hour) (outcome_given self.amounts) }
-        requires line { line + count (market_seen self.hour) sort < 2 ^ 64 }
-        ensures { result_err result ≡ claimed rows_wrong self.entry sort line moneys.now }
+    pub fn check_moneys(self, sort: Sort, moneys: &[i128]) -> Result<(), Wrong>
+        requires { Feasible (market_seen self.hour) (outcome_given self.amounts) }
+        ensures { result_err result ≡ claimed rows_wrong self.entry sort moneys.now }
     {
         for k in 0..self.count(sort) {
-            self.check_money(sort, line, moneys, k)?;
+            self.check_money(sort, moneys, k)?;
         }
         Ok(())
     }
 }
 
-pub fn counts_in(hour: Hour<'_>) -> Counts
-    ensures { result ≡ counts_in (market_seen hour.entry) }
-{
-    Counts {
-        zones: hour.zones() as usize,
-        buys: hour.buys(),
-        sells: hour.sells(),
-        lines: hour.lines(),
+impl From<Hour<'_>> for Counts {
+    ghost from_gives = { λ hour counts. counts ≡ counts_in (market_seen hour) };
+
+    fn from(hour: Hour<'_>) -> Counts {
+        Counts {
+            zones: hour.zones() as usize,
+            buys: hour.buys(),
+            sells: hour.sells(),
+            lines: hour.lines(),
+        }
     }
 }

@@ -4,7 +4,7 @@ ghost use Rattle.std.specs.declared.alloc.AllocError.{AllocError};
 ghost use Rattle.checker.specs.declared.form.Stop.TheVariants.{Memory};
 ghost use Rattle.checker.specs.Reading.{seen};
 ghost use Rattle.checker.specs.Form.{phrasing, phrased, worth_at, zone_at, row_at, item_at, zones_at, items_at};
-ghost use Rattle.checker.specs.Form.{last_line, text_at, prices_seen, table_seen, said_seen, AnswersAs};
+ghost use Rattle.checker.specs.Form.{rows_of, first_line, last_line, text_at, prices_seen, table_seen, said_seen, AnswersAs};
 
 use crate::reading::{after, amount, index, price, whole};
 use hour::Sort;
@@ -111,36 +111,64 @@ pub struct Rows<'a> {
     pub rest: &'a [u8],
 }
 
-// The rows of n zones, the first of them at a line.
-fn zone_rows<'a>(heap: Global, line: usize, n: usize, bytes: &'a [u8]) -> Result<Zones<'a>, Stop>
-    requires { line + n < 2 ^ 64 }
-    ensures { AnswersAs result prices_seen (zones_at line n bytes.now) }
+// How many of each an hour has.
+#[derive(Clone, Copy)]
+pub struct Counts {
+    pub zones: usize,
+    pub buys: usize,
+    pub sells: usize,
+    pub lines: usize,
+}
+
+impl Counts {
+    pub fn rows(self, sort: Sort) -> usize
+        ensures { result ≡ rows_of self sort }
+    {
+        match sort {
+            Sort::Buy => self.buys,
+            Sort::Sell => self.sells,
+            Sort::Line => self.lines,
+        }
+    }
+
+    // The line at which the rows of a sort begin.
+    pub fn first_line(self, sort: Sort) -> usize
+        requires { first_line self sort < 2 ^ 64 }
+        ensures { result ≡ first_line self sort }
+    {
+        match sort {
+            Sort::Buy => 2 + self.zones,
+            Sort::Sell => 2 + self.zones + self.buys,
+            Sort::Line => 2 + self.zones + self.buys + self.sells,
+        }
+    }
+}
+
+// The rows of n zones, the first of them at the second line.
+fn zone_rows<'a>(heap: Global, n: usize, bytes: &'a [u8]) -> Result<Zones<'a>, Stop>
+    requires { 2 + n < 2 ^ 64 }
+    ensures { AnswersAs result prices_seen (zones_at 2 n bytes.now) }
 {
     let mut prices = Vec::new(heap);
     let mut rest = bytes;
     for zone in 0..n {
-        let (price, behind) = zone_row(zone, rest).ok_or(Stop::Line(line + zone))?;
+        let (price, behind) = zone_row(zone, rest).ok_or(Stop::Line(2 + zone))?;
         prices.push(price)?;
         rest = behind;
     }
     Ok(Zones { prices, rest })
 }
 
-// The rows of n buys, sells or lines, the first of them at a line.
-fn item_rows<'a>(
-    heap: Global,
-    sort: Sort,
-    line: usize,
-    n: usize,
-    bytes: &'a [u8],
-) -> Result<Rows<'a>, Stop>
-    requires { line + n < 2 ^ 64 }
-    ensures { AnswersAs result table_seen (items_at sort line n bytes.now) }
+// The rows of a sort.
+fn item_rows<'a>(heap: Global, sort: Sort, n: Counts, bytes: &'a [u8]) -> Result<Rows<'a>, Stop>
+    requires { first_line n sort + rows_of n sort < 2 ^ 64 }
+    ensures { AnswersAs result table_seen (items_at sort (first_line n sort) (rows_of n sort) bytes.now) }
 {
+    let line = n.first_line(sort);
     let mut amounts = Vec::new(heap);
     let mut moneys = Vec::new(heap);
     let mut rest = bytes;
-    for k in 0..n {
+    for k in 0..n.rows(sort) {
         let ((amount, money), behind) = item_row(sort, k, rest).ok_or(Stop::Line(line + k))?;
         amounts.push(amount)?;
         moneys.push(money)?;
@@ -151,15 +179,6 @@ fn item_rows<'a>(
         moneys,
         rest,
     })
-}
-
-// How many of each an hour has.
-#[derive(Clone, Copy)]
-pub struct Counts {
-    pub zones: usize,
-    pub buys: usize,
-    pub sells: usize,
-    pub lines: usize,
 }
 
 // All that a text says.
@@ -179,15 +198,12 @@ pub fn read_text<'a>(heap: Global, n: Counts, bytes: &'a [u8]) -> Result<Said<'a
     ensures { AnswersAs result said_seen (text_at n bytes.now) }
 {
     let ((worth, pushes), rest) = worth_row(bytes).ok_or(Stop::Line(1))?;
-    let zones = zone_rows(heap, 2, n.zones, rest)?;
-    let line = 2 + n.zones;
-    let buys = item_rows(heap, Sort::Buy, line, n.buys, zones.rest)?;
-    let line = line + n.buys;
-    let sells = item_rows(heap, Sort::Sell, line, n.sells, buys.rest)?;
-    let line = line + n.sells;
-    let lines = item_rows(heap, Sort::Line, line, n.lines, sells.rest)?;
+    let zones = zone_rows(heap, n.zones, rest)?;
+    let buys = item_rows(heap, Sort::Buy, n, zones.rest)?;
+    let sells = item_rows(heap, Sort::Sell, n, buys.rest)?;
+    let lines = item_rows(heap, Sort::Line, n, sells.rest)?;
     if !lines.rest.is_empty() {
-        return Err(Stop::Line(line + n.lines));
+        return Err(Stop::Line(n.first_line(Sort::Line) + n.lines));
     }
     Ok(Said {
         worth,

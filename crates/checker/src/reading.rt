@@ -3,9 +3,9 @@ ghost use Rattle.std.specs.Prelude.{◌≡◌, ◌^◌, ◌<◌, ◌≤◌, Matc
 ghost use Rattle.checker.specs.Reading.{seen, rest_seen, after, digits, number, below, above, whole, index, digit};
 ghost use Rattle.checker.specs.Reading.{hundredths, owed_price, paid_price, price, largest, widest};
 
-const LARGEST: u128 = 18_446_744_073_709_551_615;
+const LARGEST: u128 = u64::MAX as u128;
 
-const WIDEST: u128 = 170_141_183_460_469_231_731_687_303_715_884_105_727;
+const WIDEST: u128 = i128::MAX as u128;
 
 // The text behind a word.
 pub fn after<'a>(word: &str, bytes: &'a [u8]) -> Option<&'a [u8]>

@@ -34,14 +34,7 @@ impl Report {
     pub fn stands(&self) -> bool
         ensures { result ≡ stands_test self.now }
     {
-        match *self {
-            Report::Accepted { lower: None } => true,
-            Report::Accepted { lower: Some(_) } => false,
-            Report::Refused(_) => false,
-            Report::Unreadable { .. } => false,
-            Report::Broken(_) => false,
-            Report::Wrong(_) => false,
-        }
+        matches!(*self, Report::Accepted { lower: None })
     }
 }
 
@@ -58,10 +51,9 @@ fn sort_word(sort: Sort) -> &'static str
 fn place_word(broken: Broken) -> &'static str
     ensures { result.now ≡ place_word broken }
 {
-    match broken {
-        Broken::TooLarge { sort, .. } => sort_word(sort),
-        Broken::NotAllowed { sort, .. } => sort_word(sort),
-        Broken::Unbalanced { .. } => "zone",
+    match broken.sort() {
+        Some(sort) => sort_word(sort),
+        None => "zone",
     }
 }
 

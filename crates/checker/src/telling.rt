@@ -1,5 +1,5 @@
 // What is said of a text that was published for an hour.
-ghost use Rattle.std.specs.Prelude.{◌≡◌, ◌≤◌, length, IfOk, None, vec_len};
+ghost use Rattle.std.specs.Prelude.{◌≡◌, ◌≤◌, length, IfOk, None};
 ghost use Rattle.std.specs.Result.{result_err};
 ghost use Rattle.hour.specs.Market.{Feasible};
 ghost use Rattle.checker.specs.Acceptance.{market_seen, outcome_given, claimed, broken_of};
@@ -8,18 +8,11 @@ ghost use Rattle.checker.specs.Form.{said_seen};
 ghost use Rattle.checker.specs.Telling.{AcceptedWith, RowsAs, SaidAs, Reports};
 
 use crate::claim::Claim;
-use crate::follows::counts_in;
-use crate::form::{Said, Stop, read_text};
+use crate::form::{Counts, Said, Stop, read_text};
 use crate::reports::{Report, Wrong};
 use hour::{Hour, Sort};
 use network::Amounts;
 use std::alloc::{AllocError, Global};
-
-fn zeros(heap: Global, n: usize) -> Result<Vec<u64>, AllocError>
-    ensures { IfOk result (λ v. vec_len v ≡ n) }
-{
-    vec![in heap; 0u64; n]
-}
 
 impl Claim<'_> {
     // The first row that does not follow: the worth, buys, sells, lines.
@@ -28,12 +21,9 @@ impl Claim<'_> {
         ensures { result_err result ≡ claimed wrong_in self.entry (said_seen said.now) }
     {
         self.check_worth(said.worth)?;
-        let n = counts_in(self.hour);
-        let line = 2 + n.zones;
-        self.check_moneys(Sort::Buy, line, said.buys.moneys.as_slice())?;
-        let line = line + n.buys;
-        self.check_moneys(Sort::Sell, line, said.sells.moneys.as_slice())?;
-        self.check_moneys(Sort::Line, line + n.sells, said.lines.moneys.as_slice())
+        self.check_moneys(Sort::Buy, said.buys.moneys.as_slice())?;
+        self.check_moneys(Sort::Sell, said.sells.moneys.as_slice())?;
+        self.check_moneys(Sort::Line, said.lines.moneys.as_slice())
     }
 
     // What is said of a result that breaks no rule and whose rows follow.
@@ -44,7 +34,7 @@ impl Claim<'_> {
             (AcceptedWith
             (market_seen self.entry.hour) (outcome_given self.entry.amounts) self.entry.prices.now) }
     {
-        let mut marks = zeros(heap, self.hour.zones() as usize)?;
+        let mut marks = vec![in heap; 0u64; self.hour.zones() as usize]?;
         let lower = self.find_lower(marks.as_mut_slice());
         Ok(Report::Accepted { lower })
     }
@@ -93,7 +83,7 @@ pub fn report_on(heap: Global, bytes: &[u8], text: &[u8]) -> Result<Report, Allo
         Ok(hour) => hour,
         Err(refusal) => return Ok(Report::Refused(refusal)),
     };
-    match read_text(heap, counts_in(hour), text) {
+    match read_text(heap, Counts::from(hour), text) {
         Ok(said) => judge_said(heap, hour, &said),
         Err(Stop::Line(line)) => Ok(Report::Unreadable { line }),
         Err(Stop::Memory(error)) => Err(error),

@@ -1,5 +1,5 @@
 use Rattle.std.proofs.Common.{◌≡◌, ◌+◌, [], ◌∷◌, ◌++◌, Some, None, Err, vec_items, arith, rules}
-use Rattle.checker.specs.Form.{table, item_at, item_step}
+use Rattle.checker.specs.Form.{table, first_line, rows_of, item_at, item_step}
 use Rattle.checker.specs.declared.form.Stop.TheVariants.{Line}
 use Rattle.checker.proofs.Steps.{steps_more, steps_stop, one_more_some, one_more_none}
 use Rattle.checker.proofs.form.item_rows.Goals as goal
@@ -7,10 +7,10 @@ use Rattle.checker.proofs.form.item_rows.Goals as goal
 pub returns-in_err-amount : goal.returns-in_err-amount
 returns-in_err-amount c =
     let none : None ≡ item_at c.args.sort c.loop-k.k c.loop-k.rest.now = search rules in
-    let stopped : c.from_residual.result ≡ Err (Line (c.args.line + c.loop-k.k)) = search rules in
+    let stopped : c.from_residual.result ≡ Err (Line (first_line c.args.n c.args.sort + c.loop-k.k)) = search rules in
     let before = table (vec_items c.loop-k.amounts) (vec_items c.loop-k.moneys) c.loop-k.rest.now in
     rw stopped
-    (steps_stop (item_step c.args.sort c.args.line) (table [] [] c.args.bytes.now) c.loop-k.k c.args.n _ before
+    (steps_stop (item_step c.args.sort (first_line c.args.n c.args.sort)) (table [] [] c.args.bytes.now) c.loop-k.k (rows_of c.args.n c.args.sort) _ before
     c.loop-k.invariant (one_more_none _ before _ none) (omega arith))
 
 pub loop-k-preserved : goal.loop-k-preserved
@@ -22,5 +22,5 @@ loop-k-preserved c =
     let bought : vec_items c.push.new.self ≡ vec_items c.loop-k.amounts ++ (row.amount ∷ []) = search rules in
     let paid : vec_items c.push-in-loop-k.new.self ≡ vec_items c.loop-k.moneys ++ (row.money ∷ []) = search rules in
     let before = table (vec_items c.loop-k.amounts) (vec_items c.loop-k.moneys) c.loop-k.rest.now in
-    steps_more (item_step c.args.sort c.args.line) (table [] [] c.args.bytes.now) c.loop-k.k before _ c.loop-k.invariant
+    steps_more (item_step c.args.sort (first_line c.args.n c.args.sort)) (table [] [] c.args.bytes.now) c.loop-k.k before _ c.loop-k.invariant
     (one_more_some _ before _ _ _ _ _ _ some bought paid)

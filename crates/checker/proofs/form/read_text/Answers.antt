@@ -10,11 +10,12 @@ returns-then-not-is_empty c =
     let row = c.in_ok-worth in
     let worth : Some ((row.worth, row.pushes), row.rest.now) ≡ worth_at c.args.bytes.now = search rules in
     let more : length c.in_ok-lines.lines.rest.now ≡ 0 → ⊥ = search rules in
-    text_read c.args.n c.args.bytes.now _
+    rw c.first_line.ensures
+    (text_read c.args.n c.args.bytes.now _
     (prices_seen c.in_ok-zones.zones) (table_seen c.in_ok-buys.buys)
     (table_seen c.in_ok-sells.sells) (table_seen c.in_ok-lines.lines) _
     worth c.in_ok-zones.ensures c.in_ok-buys.ensures
-    c.in_ok-sells.ensures c.in_ok-lines.ensures (ended_more _ _ _ more)
+    c.in_ok-sells.ensures c.in_ok-lines.ensures (ended_more _ _ _ more))
 
 pub returns : goal.returns
 returns c =

@@ -7,10 +7,10 @@ use Rattle.checker.proofs.form.zone_rows.Goals as goal
 pub returns-in_err-price : goal.returns-in_err-price
 returns-in_err-price c =
     let none : None ≡ zone_at c.loop-zone.zone c.loop-zone.rest.now = search rules in
-    let stopped : c.from_residual.result ≡ Err (Line (c.args.line + c.loop-zone.zone)) = search rules in
+    let stopped : c.from_residual.result ≡ Err (Line (2 + c.loop-zone.zone)) = search rules in
     let before = priced (vec_items c.loop-zone.prices) c.loop-zone.rest.now in
     rw stopped
-    (steps_stop (zone_step c.args.line) (priced [] c.args.bytes.now) c.loop-zone.zone c.args.n _ before
+    (steps_stop (zone_step 2) (priced [] c.args.bytes.now) c.loop-zone.zone c.args.n _ before
     c.loop-zone.invariant (one_price_none _ before _ none) (omega arith))
 
 pub loop-zone-preserved : goal.loop-zone-preserved
@@ -20,5 +20,5 @@ loop-zone-preserved c =
     in
     let pushed : vec_items c.push.new.self ≡ vec_items c.loop-zone.prices ++ (c.in_ok-price.price ∷ []) = search rules in
     let before = priced (vec_items c.loop-zone.prices) c.loop-zone.rest.now in
-    steps_more (zone_step c.args.line) (priced [] c.args.bytes.now) c.loop-zone.zone before _ c.loop-zone.invariant
+    steps_more (zone_step 2) (priced [] c.args.bytes.now) c.loop-zone.zone before _ c.loop-zone.invariant
     (one_price_some _ before _ _ _ _ some pushed)

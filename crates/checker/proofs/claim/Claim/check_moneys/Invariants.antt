@@ -5,4 +5,4 @@ use Rattle.checker.specs.Follows.{row_wrong}
 use Rattle.checker.proofs.claim.Claim.check_moneys.Given as goal
 
 abbrev pub invariant-loop-k : goal.invariant-loop-k
-invariant-loop-k l = first l.k (claimed row_wrong l.self l.sort l.line l.moneys) ≡ None
+invariant-loop-k l = first l.k (claimed row_wrong l.self l.sort l.moneys) ≡ None
