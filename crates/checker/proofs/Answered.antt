@@ -1,5 +1,5 @@
 -- What the answer about prices says, and that it is the only one. Assumes nothing.
-use Rattle.std.proofs.Common.{◌≡◌, ℕ, ◌<◌, ◌≤◌, Bool, eqb, List, length, Some, None, Ok, Err, Option, Result, sym, refl, ap, ◌∙◌, subst, ap₂, inl, inr, arith}
+use Rattle.std.proofs.Common.{◌≡◌, ℕ, ◌<◌, ◌≤◌, Bool, eqb, List, length, Some, None, Ok, Option, Result, sym, refl, ap, ◌∙◌, subst, ap₂, inl, inr, arith}
 use Rattle.std.proofs.lemmas.Bool.{eqb-true, eqb-false, eq-eqb, ne_eqb}
 use Rattle.hour.specs.Bytes.{market_of}
 use Rattle.hour.specs.Market.{Market, Outcome, Proper, Feasible, Settled, at}
@@ -7,7 +7,6 @@ use Rattle.hour.specs.declared.refusals.Refusal.{Refusal}
 use Rattle.network.specs.Prices as prices
 use Rattle.checker.specs.declared.verdict.Broken.{Broken}
 use Rattle.checker.specs.declared.verdict.Objection.{Objection}
-use Rattle.checker.specs.declared.verdict.Objection.TheVariants as objections
 use Rattle.checker.specs.Acceptance.{broken_of, objection_to, unless, Exactly}
 use Rattle.checker.specs.Holding.{LowerAt, NowhereLower, FirstLower}
 use Rattle.checker.specs.Marks.{unmarked, Marks, refusal_to_mark, lowness_of, Answerable, Left}
@@ -155,16 +154,6 @@ module _
             (unmarked_none (market_of bs) o ps old new (answerable_proper bs o ps (length old) a) a.feasible a.settled
             (left.marked a) known.1))
 
--- a broken rule is an objection
-abbrev pub objected : {A : Type 0} → Result A Broken → Result A Objection
-objected (Ok x) = Ok x
-objected (Err broken) = Err (objections.Broken broken)
-
-objected_unless :
-    {A : Type 0} (broken : Option Broken) (x : A) → objected (unless broken x) ≡ unless (objection_to None broken) x
-objected_unless None x = refl
-objected_unless (Some broken) x = refl
-
 -- of an hour that is not refused, and is seen in its bytes
 module _ (bs : List ℕ) (o : Outcome) (ps old new : List ℕ) where
   left_taken :
@@ -186,15 +175,3 @@ module _ (bs : List ℕ) (o : Outcome) (ps old new : List ℕ) where
       LeftIn (market_of seen) o ps old new → Left bs o ps old new
   left_late seen same taken inner =
       left_taken taken (subst (λ (cs : List ℕ). LeftIn (market_of cs) o ps old new) same inner)
-
-  pub answer_late :
-      (seen : List ℕ) (r : Result (Option ℕ) Broken) → seen ≡ bs → None ≡ refusal_to_mark bs o ps (length old) →
-      r ≡ unless (broken_of (market_of seen) o ps) (unmarked (market_of seen) new) →
-      objected r ≡ lowness_of bs o ps (length old) new
-  answer_late seen r same taken is =
-      ap objected
-      (is ∙ ap (λ (cs : List ℕ). unless (broken_of (market_of cs) o ps) (unmarked (market_of cs) new)) same)
-      ∙ (objected_unless (broken_of (market_of bs) o ps) (unmarked (market_of bs) new)
-      ∙ ap
-      (λ (refusal : Option Refusal). unless (objection_to refusal (broken_of (market_of bs) o ps)) (unmarked (market_of bs) new))
-      taken)

@@ -15,9 +15,6 @@ digit_is d small = grind arith
 abbrev onward : ℕ → ℕ → List ℕ → Read ℕ
 onward limit n rest = cond (eqb n 0) (Some (0, rest)) (digits limit n rest)
 
-onward_none : (limit n : ℕ) (rest : List ℕ) → n ≡ 0 → onward limit n rest ≡ Some (0, rest)
-onward_none limit n rest is = rw (eq-eqb n 0 is)
-
 onward_some : (limit n : ℕ) (rest : List ℕ) → (n ≡ 0 → ⊥) → onward limit n rest ≡ digits limit n rest
 onward_some limit n rest is = rw (ne_eqb n 0 is)
 

@@ -1,14 +1,10 @@
 -- A result breaks no rule exactly where it can be carried out and is settled. Assumes nothing.
-use Rattle.std.proofs.Common.{◌≡◌, ℕ, ◌+◌, ◌<◌, ◌≤◌, Bool, true, false, cond, not, eqb, List, length, Some, None, Decides, sym, ap, ◌∙◌, inl, inr, arith}
+use Rattle.std.proofs.Common.{◌≡◌, ℕ, ◌<◌, ◌≤◌, true, List, length, None, Decides, sym, ◌∙◌, inl, inr, arith}
 use Rattle.std.proofs.lemmas.Bool.{cases_order, eqb-true, eq-eqb, lt-ltb, le-ltb, ltb-false, not-false, not_from_true}
-use Rattle.std.proofs.lemmas.Bool.Decides.{same_from_decides}
-use Rattle.hour.specs.First.{when, first}
+use Rattle.hour.specs.First.{first}
 use Rattle.hour.specs.Market.{Market, Outcome, Feasible, Settled, Content, at, bid, line}
-use Rattle.hour.specs.Total.{tagged}
 use Rattle.hour.specs.declared.refusals.Sort.{Sort}
 use Rattle.hour.proofs.First.{else_none, else_none_left, else_none_right, when_none, when_false, first_none, first_all}
-use Rattle.hour.proofs.Total.{total_more}
-use Rattle.checker.specs.declared.verdict.Broken.TheVariants.{NotAllowed}
 use Rattle.checker.specs.Acceptance.{content_test, item_broken, buy_broken, sell_broken, line_broken, zone_broken, broken_of}
 
 -- the test tells whether an amount is content
@@ -31,19 +27,6 @@ module _ (limit amount cost value : ℕ) where
 
   pub decides_content : Decides (content_test limit amount cost value) (Content limit amount cost value)
   decides_content = (content, tested)
-
--- of an amount within the limit, the second rule is broken where it is not content
-pub not_allowed :
-    (sort : Sort) (number limit amount cost value : ℕ) (r : Bool) → amount ≤ limit →
-    Decides r (Content limit amount cost value) → r ≡ false →
-    Some (NotAllowed sort number) ≡ item_broken sort number limit amount cost value
-not_allowed sort number limit amount cost value r within decides fails =
-    let test : content_test limit amount cost value ≡ false =
-    same_from_decides _ r (decides_content limit amount cost value) decides ∙ fails
-    in
-    sym
-    (else_none _ _ (when_false _ _ (le-ltb limit amount within))
-    ∙ ap (λ (b : Bool). when (not b) (NotAllowed sort number)) test)
 
 -- no rule is broken by an amount within the limit that is content, and by no other
 module _ (sort : Sort) (number limit amount cost value : ℕ) where
@@ -104,8 +87,3 @@ module _ (m : Market) (o : Outcome) (ps : List ℕ) where
       ∙ (else_none _ _ (first_all _ (length m.sells) (λ k h. item_free _ k _ _ _ _ (f.sells k h) (s.sells k h)))
       ∙ (else_none _ _ (first_all _ (length m.lines) (λ k h. item_free _ k _ _ _ _ (f.lines k h) (s.lines k h)))
       ∙ first_all _ m.zones (λ z h. when_false _ _ (not_from_true _ (eq-eqb _ _ (f.balance z h))))))
-
--- one more item of a side, as a loop has it
-pub tagged_more :
-    (n : ℕ) (key : ℕ → ℕ) (v : ℕ) (f : ℕ → ℕ) → tagged (n + 1) key v f ≡ tagged n key v f + cond (eqb (key n) v) (f n) 0
-tagged_more n key v f = total_more n (λ k. cond (eqb (key k) v) (f k) 0)

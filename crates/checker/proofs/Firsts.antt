@@ -1,5 +1,5 @@
 -- The first number that passes a test. Assumes nothing.
-use Rattle.std.proofs.Common.{◌≡◌, ℕ, zero, suc, ◌<◌, ◌≤◌, Bool, true, false, is_some, Some, None, Option, MatchOption, sym, refl, ap, ◌∙◌, inl, inr, arith}
+use Rattle.std.proofs.Common.{◌≡◌, ℕ, zero, suc, ◌<◌, ◌≤◌, Bool, true, false, is_some, Some, None, Option, MatchOption, IfSome, sym, refl, ap, ◌∙◌, inl, inr, arith}
 use Rattle.std.proofs.lemmas.Bool.{cases_Bool, both_ways}
 use Rattle.std.proofs.lemmas.Iterator.{first_from_Range}
 use Rattle.std.proofs.iter.Yields.{nat_range_steps}
@@ -64,6 +64,10 @@ module _ (test : ℕ → Bool) where
           let same : n ≡ k = cc in
           record { below = omega arith; passes = rw (← same) passes; before = rw (← same) (none_passes n is) }
       go ih None is false passes some = let z : ◌≡◌ {A = ℕ} 0 1 = cc in absurd (omega arith)
+
+  pub found_below : (n : ℕ) (r : Option ℕ) → r ≡ first n (λ j. when (test j) j) → IfSome r (λ k. k < n)
+  found_below n None is = tt
+  found_below n (Some k) is = (found n k (sym is)).below
 
   -- something was found where one passes
   pub some_found : (n k : ℕ) → k < n → test k ≡ true → is_some (first n (λ j. when (test j) j)) ≡ true

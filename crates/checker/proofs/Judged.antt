@@ -1,5 +1,5 @@
 -- What there is against a result, and what its absence says. Assumes nothing.
-use Rattle.std.proofs.Common.{◌≡◌, ℕ, List, Some, None, Ok, Option, Result, sym, refl, ap, ◌∙◌, ap₂}
+use Rattle.std.proofs.Common.{◌≡◌, ℕ, List, Some, None, Ok, Option, Result, sym, refl, ◌∙◌, ap₂}
 use Rattle.hour.specs.Bytes.{market_of}
 use Rattle.hour.specs.Market.{Outcome}
 use Rattle.hour.specs.declared.refusals.Refusal.{Refusal}
@@ -17,14 +17,6 @@ unobjected x y None (Some broken) e = absurd (cc)
 unobjected x y (Some refusal) broken e = absurd (cc)
 
 module _ (bs : List ℕ) (o : Outcome) (ps : List ℕ) where
-  -- of an hour that is seen in its bytes
-  pub judged_late :
-      (seen : List ℕ) (broken : Option Broken) → seen ≡ bs → None ≡ refusal_to_check bs o ps →
-      broken ≡ broken_of (market_of seen) o ps → unless (objection_to None broken) tt ≡ verdict_of bs o ps
-  judged_late seen broken same taken is =
-      ap₂ (λ (refusal : Option Refusal) (b : Option Broken). unless (objection_to refusal b) tt) taken
-      (is ∙ ap (λ (cs : List ℕ). broken_of (market_of cs) o ps) same)
-
   pub stands_from : refusal_to_check bs o ps ≡ None → broken_of (market_of bs) o ps ≡ None → Stands bs o ps
   stands_from taken none =
       record {

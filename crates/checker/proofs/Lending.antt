@@ -12,20 +12,26 @@ use Rattle.hour.proofs.Heads.{head_read_ok, head_read_err}
 use Rattle.checker.specs.Acceptance.{lent_refusal, refusal_to_check}
 use Rattle.checker.specs.Marks.{refusal_to_mark}
 
--- what is refused is the head, or else a slice
+-- what is refused is the head, or else a slice, or else an item
 module _ (bs : List ℕ) where
   pub head_refused : (lent : Option Refusal) (e : Refusal) → head_read bs ≡ Err e → Some e ≡ refusal_with bs lent
   head_refused lent e err =
       ap (λ (fault : Option Refusal). fault else (lent else item_fault (market_of bs))) (sym (head_read_err bs e err))
 
-  pub slice_refused :
-      (lent : Head → Option Refusal) (h : Head) (e : Refusal) → head_read bs ≡ Ok h → Some e ≡ lent h →
-      Some e ≡ refusal_with bs (lent (head_of bs))
-  slice_refused lent h e ok is =
-      let read = head_read_ok bs h ok in
-      sym
-      (else_none (head_fault bs) _ read.0
-      ∙ ap (λ (fault : Option Refusal). fault else item_fault (market_of bs)) (sym (is ∙ ap lent read.1)))
+  module _ (lent : Head → Option Refusal) (h : Head) (ok : head_read bs ≡ Ok h) where
+    head_stands : refusal_with bs (lent (head_of bs)) ≡ (lent h else item_fault (market_of bs))
+    head_stands =
+        let read = head_read_ok bs h ok in
+        else_none (head_fault bs) _ read.0
+        ∙ ap (λ (head : Head). lent head else item_fault (market_of bs)) (sym read.1)
+
+    pub slice_refused : (e : Refusal) → Some e ≡ lent h → Some e ≡ refusal_with bs (lent (head_of bs))
+    slice_refused e is =
+        sym (head_stands ∙ ap (λ (fault : Option Refusal). fault else item_fault (market_of bs)) (sym is))
+
+    pub item_refused : (e : Refusal) → None ≡ lent h → Some e ≡ item_fault (market_of bs) → Some e ≡ refusal_with bs (lent (head_of bs))
+    item_refused e none is =
+        is ∙ sym (head_stands ∙ ap (λ (fault : Option Refusal). fault else item_fault (market_of bs)) (sym none))
 
 module _ (bs : List ℕ) (o : Outcome) (ps : List ℕ) where
   -- an hour with which nothing is refused is an hour

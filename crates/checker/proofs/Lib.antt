@@ -10,7 +10,6 @@ pub mod Answered
 pub mod Publishing
 pub mod House
 pub mod Words
-pub mod Numbers
 pub mod Steps
 pub mod Product
 pub mod Told

@@ -7,8 +7,9 @@
 --   holder                  the first buy, sell or line that holds the price of z up
 --   held_test               the price of z is 0, or something holds it up
 --   next_held               the first zone without a mark that is held up
+--   Wiped n old new         the first n numbers at 0, and the others as they were
 --   LeftIn                  what is left in the marks of an hour that is not refused
-use Rattle.std.specs.Prelude.{◌≡◌, ℕ, Bool, ◌&&◌, ◌||◌, List, is_some, Some, None, Option, ◌==◌, nat_lt}
+use Rattle.std.specs.Prelude.{◌≡◌, ℕ, ◌<◌, ◌≤◌, Bool, ◌&&◌, ◌||◌, List, is_some, Some, None, Option, ◌==◌, nat_lt}
 use Rattle.hour.specs.First.{when, first}
 use Rattle.hour.specs.Market.{Market, Outcome, at, bid, line}
 use Rattle.hour.specs.declared.refusals.Sort.{Sort}
@@ -59,6 +60,11 @@ new_test m o ps marks z = at marks z == 0 && held_test m o ps marks z
 
 abbrev pub next_held : Market → Outcome → List ℕ → List ℕ → Option ℕ
 next_held m o ps marks = first m.zones (λ z. when (new_test m o ps marks z) z)
+
+-- the first n numbers are 0 afterwards, and the others as they were
+pub record Wiped (n : ℕ) (old new : List ℕ) : Type 0 where
+  pub front : (k : ℕ) → k < n → at new k ≡ 0
+  pub past : (k : ℕ) → n ≤ k → at new k ≡ at old k
 
 -- what is left in the marks of an hour that is not refused: as they were where a rule is broken
 pub record LeftIn (m : Market) (o : Outcome) (ps old new : List ℕ) : Type 0 where

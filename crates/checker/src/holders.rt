@@ -104,7 +104,7 @@ impl Claim<'_> {
 
     // The first zone without a mark whose price is held up.
     pub fn next_held(self, marks: &[u64]) -> Option<usize>
-        ensures among { IfSome result (λ z. z < self.entry.hour.zones) }
+        ensures among { IfSome result (λ z. z < (market_seen self.entry.hour).zones) }
         ensures value { result ≡ claimed next_held self.entry marks.now }
     {
         (0..self.hour.zones() as usize).find(|z| self.is_newly_held(marks, *z))

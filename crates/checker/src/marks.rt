@@ -3,9 +3,18 @@ ghost use Rattle.std.specs.Prelude.{◌≡◌, ℕ, ◌<◌, ◌≤◌, length};
 ghost use Rattle.hour.specs.Market.{at};
 ghost use Rattle.checker.specs.Acceptance.{market_seen, outcome_given};
 ghost use Rattle.checker.specs.Marks.{Marks, unmarked};
+ghost use Rattle.checker.specs.Seeking.{Wiped};
 
 use crate::claim::Claim;
 use network::number_at;
+
+// The first n numbers at 0.
+fn wipe(marks: &mut [u64], n: usize)
+    requires { n ≤ length marks.old }
+    ensures { Wiped n marks.old marks.new }
+{
+    marks[..n].fill(0);
+}
 
 impl Claim<'_> {
     // Marks that are all 0 become those of the zones that are held up, one after the other.
@@ -27,7 +36,7 @@ impl Claim<'_> {
             (market_seen self.entry.hour) (outcome_given self.entry.amounts) self.entry.prices.now
             marks.old marks.new }
     {
-        marks[..self.hour.zones() as usize].fill(0);
+        wipe(marks, self.hour.zones() as usize);
         self.mark_bare(marks);
     }
 

@@ -1,7 +1,7 @@
-use Rattle.std.proofs.Common.{◌≡◌, ◌+◌, [], ◌∷◌, ◌++◌, Some, None, Err, vec_items, arith, rules}
+use Rattle.std.proofs.Common.{◌≡◌, ◌+◌, [], None, Err, vec_items, arith, rules}
 use Rattle.checker.specs.Form.{table, first_line, rows_of, item_at, item_step}
 use Rattle.checker.specs.declared.form.Stop.TheVariants.{Line}
-use Rattle.checker.proofs.Steps.{steps_more, steps_stop, one_more_some, one_more_none}
+use Rattle.checker.proofs.Steps.{steps_stop, one_more_none}
 use Rattle.checker.proofs.form.item_rows.Goals as goal
 
 pub returns-in_err-amount : goal.returns-in_err-amount
@@ -12,15 +12,3 @@ returns-in_err-amount c =
     rw stopped
     (steps_stop (item_step c.args.sort (first_line c.args.n c.args.sort)) (table [] [] c.args.bytes.now) c.loop-k.k (rows_of c.args.n c.args.sort) _ before
     c.loop-k.invariant (one_more_none _ before _ none) (omega arith))
-
-pub loop-k-preserved : goal.loop-k-preserved
-loop-k-preserved c =
-    let row = c.in_ok-amount in
-    let some : Some ((row.amount, row.money), row.behind.now) ≡ item_at c.args.sort c.loop-k.k c.loop-k.rest.now =
-    search rules
-    in
-    let bought : vec_items c.push.new.self ≡ vec_items c.loop-k.amounts ++ (row.amount ∷ []) = search rules in
-    let paid : vec_items c.push-in-loop-k.new.self ≡ vec_items c.loop-k.moneys ++ (row.money ∷ []) = search rules in
-    let before = table (vec_items c.loop-k.amounts) (vec_items c.loop-k.moneys) c.loop-k.rest.now in
-    steps_more (item_step c.args.sort (first_line c.args.n c.args.sort)) (table [] [] c.args.bytes.now) c.loop-k.k before _ c.loop-k.invariant
-    (one_more_some _ before _ _ _ _ _ _ some bought paid)

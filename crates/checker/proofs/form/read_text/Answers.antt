@@ -1,8 +1,6 @@
-use Rattle.std.proofs.Common.{◌≡◌, length, Some, SFits, rules}
-use mir.Syntax.{w128}
-use Rattle.std.proofs.lemmas.Int.{to_z-of_z}
+use Rattle.std.proofs.Common.{◌≡◌, length, Some, rules}
 use Rattle.checker.specs.Form.{worth_at, prices_seen, table_seen}
-use Rattle.checker.proofs.Steps.{text_read, ended_empty, ended_more}
+use Rattle.checker.proofs.Steps.{text_read, ended_more}
 use Rattle.checker.proofs.form.read_text.Goals as goal
 
 pub returns-then-not-is_empty : goal.returns-then-not-is_empty
@@ -16,16 +14,3 @@ returns-then-not-is_empty c =
     (table_seen c.in_ok-sells.sells) (table_seen c.in_ok-lines.lines) _
     worth c.in_ok-zones.ensures c.in_ok-buys.ensures
     c.in_ok-sells.ensures c.in_ok-lines.ensures (ended_more _ _ _ more))
-
-pub returns : goal.returns
-returns c =
-    let row = c.in_ok-worth in
-    let worth : Some ((row.worth, row.pushes), row.rest.now) ≡ worth_at c.args.bytes.now = search rules in
-    let fits : SFits w128 c.in_ok-worth.worth = search rules in
-    let empty : length c.in_ok-lines.lines.rest.now ≡ 0 = search rules in
-    simp to_z-of_z
-    (text_read c.args.n c.args.bytes.now _
-    (prices_seen c.in_ok-zones.zones) (table_seen c.in_ok-buys.buys)
-    (table_seen c.in_ok-sells.sells) (table_seen c.in_ok-lines.lines) _
-    worth c.in_ok-zones.ensures c.in_ok-buys.ensures
-    c.in_ok-sells.ensures c.in_ok-lines.ensures (ended_empty _ _ _ empty))

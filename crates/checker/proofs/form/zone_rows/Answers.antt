@@ -1,7 +1,7 @@
-use Rattle.std.proofs.Common.{◌≡◌, ◌+◌, [], ◌∷◌, ◌++◌, Some, None, Err, vec_items, arith, rules}
+use Rattle.std.proofs.Common.{◌≡◌, ◌+◌, [], None, Err, vec_items, arith, rules}
 use Rattle.checker.specs.Form.{priced, zone_at, zone_step}
 use Rattle.checker.specs.declared.form.Stop.TheVariants.{Line}
-use Rattle.checker.proofs.Steps.{steps_more, steps_stop, one_price_some, one_price_none}
+use Rattle.checker.proofs.Steps.{steps_stop, one_price_none}
 use Rattle.checker.proofs.form.zone_rows.Goals as goal
 
 pub returns-in_err-price : goal.returns-in_err-price
@@ -12,13 +12,3 @@ returns-in_err-price c =
     rw stopped
     (steps_stop (zone_step 2) (priced [] c.args.bytes.now) c.loop-zone.zone c.args.n _ before
     c.loop-zone.invariant (one_price_none _ before _ none) (omega arith))
-
-pub loop-zone-preserved : goal.loop-zone-preserved
-loop-zone-preserved c =
-    let some : Some (c.in_ok-price.price, c.in_ok-price.behind.now) ≡ zone_at c.loop-zone.zone c.loop-zone.rest.now =
-    search rules
-    in
-    let pushed : vec_items c.push.new.self ≡ vec_items c.loop-zone.prices ++ (c.in_ok-price.price ∷ []) = search rules in
-    let before = priced (vec_items c.loop-zone.prices) c.loop-zone.rest.now in
-    steps_more (zone_step 2) (priced [] c.args.bytes.now) c.loop-zone.zone before _ c.loop-zone.invariant
-    (one_price_some _ before _ _ _ _ some pushed)
