@@ -38,22 +38,13 @@ fn refused(rt: &impl Abort, answer: Result<(), Objection>, number: u64, place: u
     }
 }
 
-// No zone could be lower, or this one is the first.
-fn lower(rt: &impl Abort, answer: Result<Option<usize>, Objection>, zone: Option<usize>) {
-    match answer {
-        Ok(lower) => assert!(rt; lower == zone),
-        Err(_) => panic!(rt; "the result does not stand"),
-    }
-}
-
 #[test]
 fn the_lowest_price_is_that_of_the_sell(rt: HostRuntime) {
     let mut marks: [u64; 2] = [7, 7];
-    assert!(rt; check(&ONE_EACH, &[10], &[10], &[], &[12]).is_ok());
-    lower(
-        &rt,
+    assert_eq!(rt; check(&ONE_EACH, &[10], &[10], &[], &[12]), Ok(()));
+    assert_eq!(rt;
         lowest(&ONE_EACH, &[10], &[10], &[], &[12], &mut marks),
-        None,
+        Ok(None)
     );
     assert_eq!(rt; marks[0], 1);
     assert_eq!(rt; marks[1], 7);
@@ -62,11 +53,10 @@ fn the_lowest_price_is_that_of_the_sell(rt: HostRuntime) {
 #[test]
 fn the_highest_is_accepted_and_could_be_lower(rt: HostRuntime) {
     let mut marks: [u64; 1] = [7];
-    assert!(rt; check(&ONE_EACH, &[10], &[10], &[], &[30]).is_ok());
-    lower(
-        &rt,
+    assert_eq!(rt; check(&ONE_EACH, &[10], &[10], &[], &[30]), Ok(()));
+    assert_eq!(rt;
         lowest(&ONE_EACH, &[10], &[10], &[], &[30], &mut marks),
-        Some(0),
+        Ok(Some(0))
     );
     assert_eq!(rt; marks[0], 0);
 }
@@ -74,11 +64,10 @@ fn the_highest_is_accepted_and_could_be_lower(rt: HostRuntime) {
 #[test]
 fn a_zone_of_another_price_holds_nothing_up(rt: HostRuntime) {
     let mut marks: [u64; 2] = [7, 7];
-    assert!(rt; check(&WITH_LINE, &[10], &[10], &[0], &[30, 0]).is_ok());
-    lower(
-        &rt,
+    assert_eq!(rt; check(&WITH_LINE, &[10], &[10], &[0], &[30, 0]), Ok(()));
+    assert_eq!(rt;
         lowest(&WITH_LINE, &[10], &[10], &[0], &[30, 0], &mut marks),
-        Some(0),
+        Ok(Some(0))
     );
     assert_eq!(rt; marks[0], 0);
     assert_eq!(rt; marks[1], 1);
@@ -87,15 +76,13 @@ fn a_zone_of_another_price_holds_nothing_up(rt: HostRuntime) {
 #[test]
 fn a_line_that_carries_something_hands_on_a_price(rt: HostRuntime) {
     let mut marks: [u64; 2] = [0, 0];
-    lower(
-        &rt,
+    assert_eq!(rt;
         lowest(&FULL_LINE, &[5], &[5], &[5], &[12, 30], &mut marks),
-        Some(1),
+        Ok(Some(1))
     );
-    lower(
-        &rt,
+    assert_eq!(rt;
         lowest(&FULL_LINE, &[5], &[5], &[5], &[12, 12], &mut marks),
-        None,
+        Ok(None)
     );
 }
 

@@ -1,6 +1,6 @@
 -- When a published result is accepted, and the first rule that it breaks. Assumes nothing: these are definitions.
 --
---   market_seen h          the market that an hour's bytes say; outcome_given o the outcome that lent slices hold
+--   outcome_given o        the outcome that lent slices hold
 --   claimed f c            f of the market, the outcome and the prices of a claim
 --   content_test l x c v   whether x is content, as Content says, where a unit costs c and brings v
 --   item_broken            the rule that a buy, a sell or a line breaks: too large comes before not allowed
@@ -21,14 +21,14 @@
 use Rattle.std.specs.Prelude.{◌≡◌, ℕ, ◌+◌, Bool, true, cond, not, List, length, Some, None, Ok, Err, Option, Result, ◌==◌, nat_lt}
 use Rattle.hour.specs.Bytes.{head_of, market_of, refusal_with}
 use Rattle.hour.specs.First.{when, ◌else◌, first}
-use Rattle.hour.specs.Market.{Market, Outcome, Feasible, Settled, at, bid, line, in_zone, into, out_of}
+use Rattle.hour.specs.Market.{Market, Outcome, Feasible, Settled, at, bid, line, count_of, in_zone, into, out_of}
 use Rattle.hour.specs.Rules.{lent_fault}
+use Rattle.hour.specs.Seen.{market_seen}
 use Rattle.hour.specs.Total.{tagged}
 use Rattle.hour.specs.declared.reading.Head.{Head}
 use Rattle.hour.specs.declared.refusals.Refusal.{Refusal}
 use Rattle.hour.specs.declared.refusals.Sort.{Sort}
 use Rattle.hour.specs.declared.refusals.Sort.TheVariants as sorts
-use Rattle.hour.specs.declared.view.Hour.{Hour}
 use Rattle.network.specs.Tables.{outcome_in}
 use Rattle.network.specs.declared.tables.Amounts.{Amounts}
 use Rattle.checker.specs.declared.verdict.Broken.{Broken}
@@ -38,9 +38,6 @@ use Rattle.checker.specs.declared.verdict.Objection.TheVariants as objections
 use Rattle.checker.specs.declared.claim.Claim.{Claim}
 use Rattle.checker.specs.declared.balance.Side.{Side}
 use Rattle.checker.specs.declared.balance.Side.TheVariants.{Sold, Into, Bought, OutOf}
-
-abbrev pub market_seen : Hour → Market
-market_seen hour = market_of hour.bytes.now
 
 abbrev pub outcome_given : Amounts → Outcome
 outcome_given o = outcome_in o.bought.now o.sold.now o.flow.now
@@ -72,19 +69,14 @@ line_broken m o ps k =
     item_broken sorts.Line k
     (line m.lines k).capacity (at o.flow k) (at ps (line m.lines k).from) (at ps (line m.lines k).to)
 
--- how many there are of a sort, and the rule that one of them breaks
-abbrev pub sort_count : Market → Sort → ℕ
-sort_count m sorts.Buy = length m.buys
-sort_count m sorts.Sell = length m.sells
-sort_count m sorts.Line = length m.lines
-
+-- the rule that number k of a sort breaks
 abbrev pub sort_broken : Market → Outcome → List ℕ → Sort → ℕ → Option Broken
 sort_broken m o ps sorts.Buy k = buy_broken m o ps k
 sort_broken m o ps sorts.Sell k = sell_broken m o ps k
 sort_broken m o ps sorts.Line k = line_broken m o ps k
 
 abbrev pub first_broken : Market → Outcome → List ℕ → Sort → Option Broken
-first_broken m o ps sort = first (sort_count m sort) (sort_broken m o ps sort)
+first_broken m o ps sort = first (count_of m sort) (sort_broken m o ps sort)
 
 abbrev pub comes : Market → Outcome → ℕ → ℕ
 comes m o z = in_zone z m.sells o.sold + into z m.lines o.flow

@@ -1,6 +1,6 @@
 -- What is said of a published text, as text. Assumes nothing: these are definitions.
 --
---   sort_word s      buy, sell or line; place_word b the same of a broken rule, and zone where it is a zone
+--   place_word b     buy, sell or line of a broken rule, and zone where it is a zone
 --   broken_shown b   a broken rule by its number and its place: broken 21 buy 3
 --   figure_word f    the word before a number that does not follow: worth, pays, gets or earns
 --   wrong_shown w    a number that does not follow: wrong at line 4: pays -4996000, not -4996001
@@ -8,7 +8,7 @@
 --   stands_test r    whether a result is accepted, its prices are the lowest and all its rows follow
 use Rattle.std.specs.Prelude.{ℕ, Bool, true, false, List, [], ◌∷◌, ◌++◌, Some, None, codes, decimal, Option}
 use Rattle.std.specs.Fmt.{signed_decimal}
-use Rattle.hour.specs.Text.{words, refused}
+use Rattle.hour.specs.Text.{words, refused, sort_word}
 use Rattle.hour.specs.declared.refusals.Sort.{Sort}
 use Rattle.hour.specs.declared.refusals.Sort.TheVariants as sorts
 use Rattle.checker.specs.Breach.{rule_of, number_of}
@@ -17,11 +17,6 @@ use Rattle.checker.specs.declared.verdict.Broken.TheVariants.{TooLarge, NotAllow
 use Rattle.checker.specs.declared.reports.Report.{Report}
 use Rattle.checker.specs.declared.reports.Report.TheVariants as reports
 use Rattle.checker.specs.declared.reports.Wrong.{Wrong}
-
-abbrev pub sort_word : Sort → List ℕ
-sort_word sorts.Buy = codes "buy"
-sort_word sorts.Sell = codes "sell"
-sort_word sorts.Line = codes "line"
 
 abbrev pub place_word : Broken → List ℕ
 place_word (TooLarge sort number) = sort_word sort

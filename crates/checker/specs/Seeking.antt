@@ -11,11 +11,11 @@
 --   LeftIn                  what is left in the marks of an hour that is not refused
 use Rattle.std.specs.Prelude.{◌≡◌, ℕ, ◌<◌, ◌≤◌, Bool, ◌&&◌, ◌||◌, List, is_some, Some, None, Option, ◌==◌, nat_lt}
 use Rattle.hour.specs.First.{when, first}
-use Rattle.hour.specs.Market.{Market, Outcome, at, bid, line}
+use Rattle.hour.specs.Market.{Market, Outcome, at, bid, line, count_of}
 use Rattle.hour.specs.declared.refusals.Sort.{Sort}
 use Rattle.hour.specs.declared.refusals.Sort.TheVariants as sorts
 use Rattle.checker.specs.declared.verdict.Broken.{Broken}
-use Rattle.checker.specs.Acceptance.{broken_of, sort_count}
+use Rattle.checker.specs.Acceptance.{broken_of}
 use Rattle.checker.specs.Marks.{Marks}
 
 abbrev pub buy_test : Market → Outcome → List ℕ → ℕ → ℕ → Bool
@@ -47,7 +47,7 @@ sort_test m o ps marks z sorts.Sell k = sell_test m o ps z k
 sort_test m o ps marks z sorts.Line k = out_test m o ps marks z k || in_test m o ps marks z k
 
 abbrev pub holder : Market → Outcome → List ℕ → List ℕ → ℕ → Sort → Option ℕ
-holder m o ps marks z sort = first (sort_count m sort) (λ k. when (sort_test m o ps marks z sort k) k)
+holder m o ps marks z sort = first (count_of m sort) (λ k. when (sort_test m o ps marks z sort k) k)
 
 abbrev pub held_test : Market → Outcome → List ℕ → List ℕ → ℕ → Bool
 held_test m o ps marks z =

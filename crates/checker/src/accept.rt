@@ -1,13 +1,14 @@
 // The first rule that a published result breaks.
 ghost use Rattle.std.specs.Prelude.{◌≡◌, ◌<◌, Ok};
 ghost use Rattle.std.specs.Result.{result_err};
+ghost use Rattle.hour.specs.Market.{count_of};
+ghost use Rattle.hour.specs.Seen.{market_seen};
 ghost use Rattle.network.specs.Tables.{outcome_in};
-ghost use Rattle.checker.specs.Acceptance.{market_seen, outcome_given, claimed, item_broken, buy_broken, sell_broken, line_broken};
-ghost use Rattle.checker.specs.Acceptance.{sort_count, sort_broken, first_broken, broken_of};
+ghost use Rattle.checker.specs.Acceptance.{outcome_given, claimed, item_broken, buy_broken, sell_broken, line_broken};
+ghost use Rattle.checker.specs.Acceptance.{sort_broken, first_broken, broken_of};
 ghost use Rattle.checker.specs.Acceptance.{verdict_of, Stands, Exactly};
 
 use crate::claim::Claim;
-use crate::form::Counts;
 use crate::lent::hour_to_check;
 use crate::verdict::{Broken, Objection};
 use hour::Sort;
@@ -87,15 +88,8 @@ impl Claim<'_> {
         )
     }
 
-    // How many of a sort the hour has.
-    pub fn count(self, sort: Sort) -> usize
-        ensures { result ≡ sort_count (market_seen self.entry.hour) sort }
-    {
-        Counts::from(self.hour).rows(sort)
-    }
-
     fn check_one(self, sort: Sort, k: usize) -> Result<(), Broken>
-        requires { k < sort_count (market_seen self.hour) sort }
+        requires { k < count_of (market_seen self.hour) sort }
         ensures { result_err result ≡ claimed sort_broken self.entry sort k }
     {
         match sort {
@@ -109,7 +103,7 @@ impl Claim<'_> {
     fn check_sort(self, sort: Sort) -> Result<(), Broken>
         ensures { result_err result ≡ claimed first_broken self.entry sort }
     {
-        for k in 0..self.count(sort) {
+        for k in 0..self.hour.count(sort) {
             self.check_one(sort, k)?;
         }
         Ok(())

@@ -1,9 +1,10 @@
 // Whether each zone is in balance: what is sold there and flows in is what is bought there and flows out.
 ghost use Rattle.std.specs.Prelude.{◌≡◌, ◌-◌, ◌*◌, ◌^◌, ◌<◌, ◌≤◌, if◌then◌else◌, nat_eq};
 ghost use Rattle.std.specs.Result.{result_err};
+ghost use Rattle.hour.specs.Seen.{market_seen};
 ghost use Rattle.hour.specs.First.{first};
 ghost use Rattle.hour.specs.Market.{at};
-ghost use Rattle.checker.specs.Acceptance.{market_seen, outcome_given, side_count, side_zone, side_amounts};
+ghost use Rattle.checker.specs.Acceptance.{outcome_given, side_count, side_zone, side_amounts};
 ghost use Rattle.checker.specs.Acceptance.{side_total, zone_broken};
 
 use crate::claim::Claim;

@@ -1,11 +1,12 @@
 // Whether the worth and the money of each row follow from the amounts and the prices.
 ghost use Rattle.std.specs.Prelude.{◌≡◌, ◌+◌, ◌^◌, ◌<◌, ◌≤◌, Some};
 ghost use Rattle.std.specs.Result.{result_err};
+ghost use Rattle.hour.specs.Seen.{market_seen};
 ghost use Rattle.hour.specs.Market.{Feasible};
 ghost use Rattle.hour.specs.Rules.{max_amount};
 ghost use Rattle.network.specs.Network.{Among};
 ghost use Rattle.ledger.specs.Money.{owed, money, item, count};
-ghost use Rattle.checker.specs.Acceptance.{market_seen, outcome_given, claimed};
+ghost use Rattle.checker.specs.Acceptance.{outcome_given, claimed};
 ghost use Rattle.checker.specs.Follows.{money_at, figure_wrong, row_wrong, rows_wrong, worth_wrong, counts_in};
 
 use crate::claim::Claim;
@@ -86,7 +87,7 @@ impl Claim<'_> {
         requires { Feasible (market_seen self.hour) (outcome_given self.amounts) }
         ensures { result_err result ≡ claimed rows_wrong self.entry sort moneys.now }
     {
-        for k in 0..self.count(sort) {
+        for k in 0..self.hour.count(sort) {
             self.check_money(sort, moneys, k)?;
         }
         Ok(())

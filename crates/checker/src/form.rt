@@ -121,7 +121,7 @@ pub struct Counts {
 }
 
 impl Counts {
-    pub fn rows(self, sort: Sort) -> usize
+    fn rows(self, sort: Sort) -> usize
         ensures { result ≡ rows_of self sort }
     {
         match sort {

@@ -1,7 +1,9 @@
 // What holds the price of a zone up: a bid at exactly that price, or a line to a marked zone of the same price.
 ghost use Rattle.std.specs.Prelude.{◌≡◌, ◌<◌, IfSome};
+ghost use Rattle.hour.specs.Market.{count_of};
+ghost use Rattle.hour.specs.Seen.{market_seen};
 ghost use Rattle.hour.specs.declared.refusals.Sort.TheVariants as sorts;
-ghost use Rattle.checker.specs.Acceptance.{market_seen, claimed, sort_count};
+ghost use Rattle.checker.specs.Acceptance.{claimed};
 ghost use Rattle.checker.specs.Seeking.{buy_test, sell_test, level_test, out_test, in_test, sort_test};
 ghost use Rattle.checker.specs.Seeking.{holder, held_test, next_held, new_test};
 
@@ -70,7 +72,7 @@ impl Claim<'_> {
 
     // Whether the price of zone z is held up by number k of a sort.
     fn holds(self, marks: &[u64], z: usize, sort: Sort, k: usize) -> bool
-        requires { k < sort_count (market_seen self.hour) sort }
+        requires { k < count_of (market_seen self.hour) sort }
         ensures { result ≡ claimed sort_test self.entry marks.now z sort k }
     {
         match sort {
@@ -84,7 +86,7 @@ impl Claim<'_> {
     fn find_holder(self, marks: &[u64], z: usize, sort: Sort) -> Option<usize>
         ensures { result ≡ claimed holder self.entry marks.now z sort }
     {
-        (0..self.count(sort)).find(|k| self.holds(marks, z, sort, *k))
+        (0..self.hour.count(sort)).find(|k| self.holds(marks, z, sort, *k))
     }
 
     fn is_held(self, marks: &[u64], z: usize) -> bool

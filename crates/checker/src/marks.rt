@@ -1,7 +1,8 @@
 // Marks for the zones whose price is held up.
 ghost use Rattle.std.specs.Prelude.{◌≡◌, ℕ, ◌<◌, ◌≤◌, length};
+ghost use Rattle.hour.specs.Seen.{market_seen};
 ghost use Rattle.hour.specs.Market.{at};
-ghost use Rattle.checker.specs.Acceptance.{market_seen, outcome_given};
+ghost use Rattle.checker.specs.Acceptance.{outcome_given};
 ghost use Rattle.checker.specs.Marks.{Marks, unmarked};
 ghost use Rattle.checker.specs.Seeking.{Wiped};
 

@@ -1,7 +1,8 @@
 // Whether the prices of a published result are the lowest that settle.
 ghost use Rattle.std.specs.Prelude.{◌≡◌, ℕ, ◌≤◌, length, None, Some, Ok};
+ghost use Rattle.hour.specs.Seen.{market_seen};
 ghost use Rattle.network.specs.Tables.{outcome_in};
-ghost use Rattle.checker.specs.Acceptance.{market_seen, outcome_given, claimed, broken_of, unless, Exactly};
+ghost use Rattle.checker.specs.Acceptance.{outcome_given, claimed, broken_of, unless, Exactly};
 ghost use Rattle.checker.specs.Marks.{unmarked, lowness_of, Left, LowerFirst, LowestAll};
 ghost use Rattle.checker.specs.Seeking.{LeftIn};
 

@@ -1,6 +1,6 @@
 // What is said of a published text, and how it is shown.
 ghost use Rattle.std.specs.Prelude.{◌≡◌, Some};
-ghost use Rattle.checker.specs.Reports.{sort_word, place_word, broken_shown, figure_word, wrong_shown, report_shown, stands_test};
+ghost use Rattle.checker.specs.Reports.{broken_shown, figure_word, wrong_shown, report_shown, stands_test};
 
 use crate::verdict::Broken;
 use hour::{Refusal, Sort};
@@ -38,25 +38,6 @@ impl Report {
     }
 }
 
-fn sort_word(sort: Sort) -> &'static str
-    ensures { result.now ≡ sort_word sort }
-{
-    match sort {
-        Sort::Buy => "buy",
-        Sort::Sell => "sell",
-        Sort::Line => "line",
-    }
-}
-
-fn place_word(broken: Broken) -> &'static str
-    ensures { result.now ≡ place_word broken }
-{
-    match broken.sort() {
-        Some(sort) => sort_word(sort),
-        None => "zone",
-    }
-}
-
 fn figure_word(figure: Option<Sort>) -> &'static str
     ensures { result.now ≡ figure_word figure }
 {
@@ -73,9 +54,11 @@ impl fmt::Display for Broken {
 
     fn fmt<W: fmt::Write>(&self, f: &mut fmt::Formatter<W>) -> fmt::Result {
         let rule = self.rule();
-        let word = place_word(*self);
         let number = self.number();
-        write!(f, "broken {rule} {word} {number}")
+        match self.sort() {
+            Some(sort) => write!(f, "broken {rule} {sort} {number}"),
+            None => write!(f, "broken {rule} zone {number}"),
+        }
     }
 }
 

@@ -1,8 +1,9 @@
 // What is said of a text that was published for an hour.
 ghost use Rattle.std.specs.Prelude.{◌≡◌, ◌≤◌, length, IfOk, None};
 ghost use Rattle.std.specs.Result.{result_err};
+ghost use Rattle.hour.specs.Seen.{market_seen};
 ghost use Rattle.hour.specs.Market.{Feasible};
-ghost use Rattle.checker.specs.Acceptance.{market_seen, outcome_given, claimed, broken_of};
+ghost use Rattle.checker.specs.Acceptance.{outcome_given, claimed, broken_of};
 ghost use Rattle.checker.specs.Follows.{wrong_in};
 ghost use Rattle.checker.specs.Form.{said_seen};
 ghost use Rattle.checker.specs.Telling.{AcceptedWith, RowsAs, SaidAs, Reports};

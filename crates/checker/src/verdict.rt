@@ -6,7 +6,7 @@ ghost use Rattle.checker.specs.declared.verdict.Objection.TheVariants as objecti
 use hour::{Refusal, Sort};
 
 // A rule that a published result breaks, with the sort and the number of what breaks it.
-#[derive(Clone, Copy)]
+#[derive(Clone, Copy, Debug, PartialEq, Eq)]
 pub enum Broken {
     // A buy, a sell or a line has more than it takes.
     TooLarge { sort: Sort, number: usize },
@@ -52,7 +52,7 @@ impl Broken {
 }
 
 // Why there is no answer about a result.
-#[derive(Clone, Copy)]
+#[derive(Clone, Copy, Debug, PartialEq, Eq)]
 pub enum Objection {
     // The hour or a lent slice is refused.
     Refused(Refusal),

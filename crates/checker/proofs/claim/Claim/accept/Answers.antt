@@ -1,4 +1,5 @@
-use Rattle.checker.specs.Acceptance.{market_seen, outcome_given}
+use Rattle.hour.specs.Seen.{market_seen}
+use Rattle.checker.specs.Acceptance.{outcome_given}
 use Rattle.checker.proofs.Rules.{proper_seen}
 use Rattle.checker.proofs.Told.{accepted_with}
 use Rattle.checker.proofs.claim.Claim.accept.Goals as goal

@@ -1,7 +1,7 @@
 use Rattle.std.proofs.Common.{arith, rules}
+use Rattle.hour.specs.Seen.{market_seen}
 use Rattle.hour.proofs.First.{first_answer}
 use Rattle.ledger.specs.Money.{count}
-use Rattle.checker.specs.Acceptance.{market_seen}
 use Rattle.checker.proofs.claim.Claim.check_moneys.Goals as goal
 
 pub returns-in_err-check_money : goal.returns-in_err-check_money

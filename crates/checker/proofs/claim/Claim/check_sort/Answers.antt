@@ -1,11 +1,12 @@
 use Rattle.std.proofs.Common.{arith, rules}
+use Rattle.hour.specs.Market.{count_of}
+use Rattle.hour.specs.Seen.{market_seen}
 use Rattle.hour.proofs.First.{first_answer, first_more}
-use Rattle.checker.specs.Acceptance.{market_seen, sort_count}
 use Rattle.checker.proofs.claim.Claim.check_sort.Goals as goal
 
 pub returns-in_err-check_one : goal.returns-in_err-check_one
 returns-in_err-check_one c =
-    first_answer _ c.loop-k.k (sort_count (market_seen c.args.self.hour) c.args.sort) _ (omega arith)
+    first_answer _ c.loop-k.k (count_of (market_seen c.args.self.hour) c.args.sort) _ (omega arith)
     c.loop-k.invariant (search rules) (search rules)
 
 pub loop-k-preserved : goal.loop-k-preserved

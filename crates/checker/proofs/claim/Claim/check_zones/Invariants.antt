@@ -1,6 +1,7 @@
 use Rattle.std.proofs.Common.{◌≡◌, None}
+use Rattle.hour.specs.Seen.{market_seen}
 use Rattle.hour.specs.First.{first}
-use Rattle.checker.specs.Acceptance.{market_seen, outcome_given, zone_broken}
+use Rattle.checker.specs.Acceptance.{outcome_given, zone_broken}
 use Rattle.checker.proofs.claim.Claim.check_zones.Given as goal
 
 abbrev pub invariant-loop-z : goal.invariant-loop-z

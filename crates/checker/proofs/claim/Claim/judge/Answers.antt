@@ -1,5 +1,6 @@
 use Rattle.std.proofs.Common.{◌≡◌, None, rules}
-use Rattle.checker.specs.Acceptance.{market_seen, outcome_given, claimed, broken_of}
+use Rattle.hour.specs.Seen.{market_seen}
+use Rattle.checker.specs.Acceptance.{outcome_given, claimed, broken_of}
 use Rattle.checker.proofs.Breaches.{feasible_from_none}
 use Rattle.checker.proofs.claim.Claim.judge.Goals as goal
 

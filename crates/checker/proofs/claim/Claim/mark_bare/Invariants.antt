@@ -1,4 +1,5 @@
-use Rattle.checker.specs.Acceptance.{market_seen, outcome_given}
+use Rattle.hour.specs.Seen.{market_seen}
+use Rattle.checker.specs.Acceptance.{outcome_given}
 use Rattle.checker.proofs.Marking.{Sofar, bare}
 use Rattle.checker.proofs.claim.Claim.mark_bare.Given as goal
 

@@ -1,7 +1,8 @@
 -- The rules of the hour limit amounts.
 use Rattle.std.proofs.Common.{arith}
+use Rattle.hour.specs.Seen.{market_seen}
 use Rattle.ledger.proofs.Limits.{rules_of, carried_small}
-use Rattle.checker.specs.Acceptance.{market_seen, outcome_given}
+use Rattle.checker.specs.Acceptance.{outcome_given}
 use Rattle.checker.proofs.claim.Claim.money_due.Goals as goal
 
 pub owed-requires : goal.owed-requires
