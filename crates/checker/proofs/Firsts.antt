@@ -51,7 +51,7 @@ module _ (test : ℕ → Bool) where
     pub before : (j : ℕ) → j < k → test j ≡ false
 
   pub found : (n k : ℕ) → first n (λ j. when (test j) j) ≡ Some k → Found n k
-  found zero k some = let z : ◌≡◌ {A = ℕ} 0 1 = cc in absurd (omega arith)
+  found zero k some = absurd (cc)
   found (suc n) k some = go (found n k) (first n (λ j. when (test j) j)) refl (test n) refl some
     where
       go :
@@ -63,7 +63,7 @@ module _ (test : ℕ → Bool) where
       go ih None is true passes some =
           let same : n ≡ k = cc in
           record { below = omega arith; passes = rw (← same) passes; before = rw (← same) (none_passes n is) }
-      go ih None is false passes some = let z : ◌≡◌ {A = ℕ} 0 1 = cc in absurd (omega arith)
+      go ih None is false passes some = absurd (cc)
 
   pub found_below : (n : ℕ) (r : Option ℕ) → r ≡ first n (λ j. when (test j) j) → IfSome r (λ k. k < n)
   found_below n None is = tt

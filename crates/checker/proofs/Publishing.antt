@@ -98,9 +98,9 @@ left_one bs o ps old new other a b =
     go None taken (Some b) is =
         kept (λ asked.
         let none = none_broken (market_of bs) o ps asked.feasible asked.settled in
-        let n : ◌≡◌ {A = ℕ} 0 1 = cc in omega arith)
+        cc)
     go (Some e) refused broken is =
-        kept (λ asked. let none = asked.taken in let n : ◌≡◌ {A = ℕ} 0 1 = cc in omega arith)
+        kept (λ asked. let none = asked.taken in cc)
 
 pub one_lowness : OneLowness
 one_lowness bs o ps old new other r s a b =

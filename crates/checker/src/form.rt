@@ -103,7 +103,7 @@ pub struct Zones<'a> {
     pub rest: &'a [u8],
 }
 
-// What the rows of a sort say, and the text behind them.
+// What the rows of a sort say, and the text behind them. Amounts and moneys are lists of their own, since a claim takes amounts alone.
 #[derive(Drop)]
 pub struct Rows<'a> {
     pub amounts: Vec<u64>,
@@ -144,7 +144,8 @@ impl Counts {
     }
 }
 
-// The rows of n zones, the first of them at the second line.
+// The rows of n zones, the first of them at the second line. One list is filled here and two for a sort: in a function for both,
+// what is filled would be a parameter and its contract longer than the loop.
 fn zone_rows<'a>(heap: Global, n: usize, bytes: &'a [u8]) -> Result<Zones<'a>, Stop>
     requires { 2 + n < 2 ^ 64 }
     ensures { AnswersAs result prices_seen (zones_at 2 n bytes.now) }

@@ -1,4 +1,5 @@
-// Reading words and numbers at the front of a text: each function hands on the text behind what it read.
+// Reading words and numbers at the front of a text: each function hands on the text behind what it read. Digits are read one by
+// one, since the library's `parse` takes a plus and zeros in front.
 ghost use Rattle.std.specs.Prelude.{◌≡◌, ◌^◌, ◌<◌, ◌≤◌, MatchOption};
 ghost use Rattle.checker.specs.Reading.{seen, rest_seen, after, digits, number, below, above, whole, index, digit};
 ghost use Rattle.checker.specs.Reading.{hundredths, owed_price, paid_price, price, largest, widest};
