@@ -1,56 +1,47 @@
 // What the market promises: each function's contract is one statement, proved of the market's definitions.
 ghost use Rattle.network.specs.Promises.{Best, Even, NoRegret, Exchange, OneLowest, LowestCapped, Push, AtRest, WorkedHours};
 
-pub fn best_holds() -> u8
+pub fn best_holds()
     ensures { Best }
 {
-    0
 }
 
-pub fn even_holds() -> u8
+pub fn even_holds()
     ensures { Even }
 {
-    0
 }
 
-pub fn no_regret_holds() -> u8
+pub fn no_regret_holds()
     ensures { NoRegret }
 {
-    0
 }
 
-pub fn exchange_holds() -> u8
+pub fn exchange_holds()
     ensures { Exchange }
 {
-    0
 }
 
-pub fn one_lowest_holds() -> u8
+pub fn one_lowest_holds()
     ensures { OneLowest }
 {
-    0
 }
 
-pub fn lowest_capped_holds() -> u8
+pub fn lowest_capped_holds()
     ensures { LowestCapped }
 {
-    0
 }
 
-pub fn push_holds() -> u8
+pub fn push_holds()
     ensures { Push }
 {
-    0
 }
 
-pub fn at_rest_holds() -> u8
+pub fn at_rest_holds()
     ensures { AtRest }
 {
-    0
 }
 
-pub fn worked_hours_hold() -> u8
+pub fn worked_hours_hold()
     ensures { WorkedHours }
 {
-    0
 }

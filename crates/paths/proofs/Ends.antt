@@ -1,5 +1,8 @@
 -- A line that is looked at: where it leads, and what raising a label over it leaves. Assumes nothing.
-use Rattle.std.proofs.Common.{◌≡◌, ℕ, suc, ◌+◌, ◌^◌, ◌<◌, ◌≤◌, Bool, true, false, cond, List, length, set, sym, ap, inl, inr, arith}
+--
+--   StepDone t o s ..    the way over the step s was taken where it is free and better, or nothing was done
+use Rattle.std.proofs.Common.{◌≡◌, ℕ, suc, ◌^◌, ◌<◌, ◌≤◌, Bool, true, false, cond, List, length, set, sym, refl, ap, ◌∙◌, inl, inr, arith}
+use Rattle.std.proofs.lemmas.List.{length-map}
 use Rattle.hour.specs.Market.{Market, Outcome, at, line}
 use Rattle.hour.specs.declared.items.Line.{Line}
 use Rattle.network.proofs.Rows.{length_lines_in}
@@ -10,14 +13,22 @@ use Rattle.network.specs.declared.arcs.Step.{Step}
 use Rattle.network.specs.declared.arcs.Step.TheVariants.{Forward, Backward}
 use Rattle.network.specs.declared.tables.Amounts.{Amounts}
 use Rattle.network.specs.declared.tables.Tables.{Tables}
-use Rattle.paths.specs.Labels.{NoBetter}
-use Rattle.paths.specs.Search.{market_given, outcome_given, Sound, rises, RelaxedBy, Settling, Raised, top}
+use Rattle.paths.specs.Labels.{NoBetter, Over}
+use Rattle.paths.specs.Search.{market_given, outcome_given, Sound, RelaxedBy, Settling, Raised, top}
+use Rattle.paths.specs.Ways.{way_at, way_better, over_line, worths, fars}
+use Rattle.paths.specs.declared.ways.Way.{Way}
 use Rattle.paths.proofs.Keys.{far_below}
 use Rattle.paths.proofs.Raised.{raise_done}
+use Rattle.paths.proofs.Zones.{far_is, keeps_same}
 
-pub raise_few : (b : Bool) (rose : ℕ) → rose ≡ cond b 1 0 → rose ≤ 1
-raise_few true rose answer = omega arith
-raise_few false rose answer = omega arith
+pub record StepDone (t : Tables) (o : Amounts) (s : Step) (ways : List Way) (rose : ℕ) (ways' : List Way) : Type 0 where
+  pub raised : Raised t o ways rose ways'
+  pub relaxed : rose ≡ 0 → RelaxedBy (market_given t) (outcome_given o) (worths ways) (fars ways) s
+  pub few : rose ≤ 1
+
+one_at_most : (b : Bool) (rose : ℕ) → rose ≡ cond b 1 0 → rose ≤ 1
+one_at_most true rose answer = omega arith
+one_at_most false rose answer = omega arith
 
 -- all ways over a step begin and end where it does
 relaxed_step :
@@ -48,56 +59,76 @@ module _
     backward_free : 0 < at o.flow.now l → Free (market_given t) (outcome_given o) (Backward (items.Line l))
     backward_free some = record { among = below; room = some }
 
-    module _ (worth far : List ℕ) (settling : Settling t o worth far) where
+    module _ (ways : List Way) (settling : Settling t o ways) where
       pub ends_in :
           (v w : ℕ) → v < t.zones → w < t.zones →
-          record { worth : (v < length worth) × (w < length worth); far : (v < length far) × ((w < length far) × (at far w < 2 ^ 32)) }
+          record { zones : (v < length ways) × (w < length ways); near : (way_at ways w).far < 2 ^ 32 }
       ends_in v w v_in w_in =
           let keyed = settling.keyed in
-          let near = far_below t.zones top worth far keyed w w_in in
+          let near = far_below t.zones top _ _ keyed w w_in in
+          let long : length ways ≡ t.zones = sym (length-map ways (λ (x : Way). x.worth)) ∙ keyed.worth_long in
           record {
-            worth = (omega (arith, keyed.worth_long), omega (arith, keyed.worth_long));
-            far =
-                (omega (arith, keyed.far_long), (omega (arith, keyed.far_long), omega (arith, near, sound.tables.zones)));
+            zones = (omega arith, omega arith);
+            near = omega (arith, near, far_is ways w, sound.tables.zones);
           }
 
-      module _ (worth' far' : List ℕ) (rose : ℕ) where
-        pub forward_raised :
-            at o.flow.now l < ln.capacity →
-            rose ≡ cond (rises worth far ln.from ln.to) 1 0 →
-            worth' ≡ cond (rises worth far ln.from ln.to) (set worth ln.from (at worth ln.to)) worth →
-            far' ≡ cond (rises worth far ln.from ln.to) (set far ln.from (at far ln.to + 1)) far →
-            Raised t o worth far rose worth' far'
-            × (rose ≡ 0 → RelaxedBy (market_given t) (outcome_given o) worth far (Forward (items.Line l)))
-        forward_raised room answer new_worth new_far =
-            let from_is = ap (λ (x : Line). x.from) is in
-            let to_is = ap (λ (x : Line). x.to) is in
-            let done =
-            raise_done t o worth far worth' far' l ln.from ln.to rose sound.tables.proper settling from_below to_below
-            (inl (record { free = forward_free room; from = sym from_is; to = sym to_is }))
-            answer new_worth new_far
-            in (
-              done.0,
-              λ none. relaxed_step _ _ worth far (Forward (items.Line l)) (λ some.
-                  rw (← from_is, ← to_is) (done.1 none (rw (← to_is) at some))),
-            )
+      module _ (ways' : List Way) (rose : ℕ) where
+        step_done :
+            (s : Step) (v w : ℕ) → v ≡ start (market_given t) s → w ≡ finish (market_given t) s → v < t.zones →
+            w < t.zones → Over (market_given t) (outcome_given o) l v w →
+            rose ≡ cond (way_better (way_at ways v) (way_at ways w)) 1 0 →
+            ways' ≡ cond (way_better (way_at ways v) (way_at ways w)) (set ways v (over_line (way_at ways v) (way_at ways w))) ways →
+            StepDone t o s ways rose ways'
+        step_done s v w from to v_in w_in over answer new =
+            let done = raise_done t o ways ways' l v w rose sound.tables.proper settling v_in w_in over answer new in
+            record {
+              raised = done.0;
+              relaxed = λ none.
+                  relaxed_step _ _ (worths ways) (fars ways) s (λ some. rw (← from, ← to) (done.1 none (rw (← to) at some)));
+              few = one_at_most _ rose answer;
+            }
 
-        pub backward_raised :
-            0 < at o.flow.now l →
-            rose ≡ cond (rises worth far ln.to ln.from) 1 0 →
-            worth' ≡ cond (rises worth far ln.to ln.from) (set worth ln.to (at worth ln.from)) worth →
-            far' ≡ cond (rises worth far ln.to ln.from) (set far ln.to (at far ln.from + 1)) far →
-            Raised t o worth far rose worth' far'
-            × (rose ≡ 0 → RelaxedBy (market_given t) (outcome_given o) worth far (Backward (items.Line l)))
-        backward_raised some_flow answer new_worth new_far =
+        pub forward_done :
+            at o.flow.now l < ln.capacity →
+            rose ≡ cond (way_better (way_at ways ln.from) (way_at ways ln.to)) 1 0 →
+            ways'
+            ≡ cond (way_better (way_at ways ln.from) (way_at ways ln.to))
+            (set ways ln.from (over_line (way_at ways ln.from) (way_at ways ln.to))) ways →
+            StepDone t o (Forward (items.Line l)) ways rose ways'
+        forward_done room =
             let from_is = ap (λ (x : Line). x.from) is in
             let to_is = ap (λ (x : Line). x.to) is in
-            let done =
-            raise_done t o worth far worth' far' l ln.to ln.from rose sound.tables.proper settling to_below from_below
+            step_done (Forward (items.Line l)) ln.from ln.to from_is to_is from_below to_below
+            (inl (record { free = forward_free room; from = sym from_is; to = sym to_is }))
+
+        pub backward_done :
+            0 < at o.flow.now l →
+            rose ≡ cond (way_better (way_at ways ln.to) (way_at ways ln.from)) 1 0 →
+            ways'
+            ≡ cond (way_better (way_at ways ln.to) (way_at ways ln.from))
+            (set ways ln.to (over_line (way_at ways ln.to) (way_at ways ln.from))) ways →
+            StepDone t o (Backward (items.Line l)) ways rose ways'
+        backward_done some_flow =
+            let from_is = ap (λ (x : Line). x.from) is in
+            let to_is = ap (λ (x : Line). x.to) is in
+            step_done (Backward (items.Line l)) ln.to ln.from to_is from_is to_below from_below
             (inr (record { free = backward_free some_flow; from = sym to_is; to = sym from_is }))
-            answer new_worth new_far
-            in (
-              done.0,
-              λ none. relaxed_step _ _ worth far (Backward (items.Line l)) (λ some.
-                  rw (← from_is, ← to_is) (done.1 none (rw (← from_is) at some))),
-            )
+
+      -- a step that is not free is left alone
+      none_done : (s : Step) → (Free (market_given t) (outcome_given o) s → ⊥) → StepDone t o s ways 0 ways
+      none_done s closed =
+          record {
+            raised =
+                record { settling = settling; falls = omega arith; same = λ e. refl; bids = keeps_same ways };
+            relaxed = λ none v w leads some. absurd (closed leads.free);
+            few = omega arith;
+          }
+
+      pub forward_closed : ln.capacity ≤ at o.flow.now l → StepDone t o (Forward (items.Line l)) ways 0 ways
+      forward_closed full =
+          none_done (Forward (items.Line l)) (λ free.
+          let room = free.room in omega (arith, full, room, ap (λ (x : Line). x.capacity) is))
+
+      pub backward_closed : at o.flow.now l ≡ 0 → StepDone t o (Backward (items.Line l)) ways 0 ways
+      backward_closed empty =
+          none_done (Backward (items.Line l)) (λ free. let room = free.room in omega (arith, empty, room))

@@ -1,9 +1,10 @@
--- Tables at 0, and how each zone's way leaves it. Assumes nothing.
+-- How each zone's way leaves it. Assumes nothing.
 --
 --   ExitsTo ..     out has the ways out of the zones below v, and the own takers from v on
 --   ExitsPast ..   the same, and nothing yet for v itself
-use Rattle.std.proofs.Common.{◌≡◌, ℕ, ◌+◌, ◌<◌, ◌≤◌, Bool, true, false, eqb, ◌≢◌, List, length, set, is_some, Some, None, Option, sym, refl, ap, ◌∙◌, inl, inr, ⊎_elim, add-one, arith}
-use Rattle.std.proofs.lemmas.List.{get_or_past, get_or-set_same, get_or-set_other}
+use Rattle.std.proofs.Common.{◌≡◌, ℕ, ◌+◌, ◌<◌, ◌≤◌, Bool, true, false, eqb, ◌≢◌, List, length, set, is_some, Some, None, Option, sym, refl, ap, ◌∙◌, inl, inr, add-one, arith}
+use mathlib.Core.Path.{subst⁻¹}
+use Rattle.std.proofs.lemmas.List.{length-map, get_or-set_same, get_or-set_other}
 use Rattle.std.proofs.lemmas.Bool.{cases_lt, cases_eq, cond-true, cond-false, eq-eqb, ne_eqb}
 use Rattle.hour.proofs.First.{first_found, first_more, when_false}
 use Rattle.hour.specs.First.{when, first}
@@ -12,11 +13,9 @@ use Rattle.paths.specs.Best.{numbered}
 use Rattle.paths.specs.Bids.{bids, taker, worth_at, own}
 use Rattle.paths.specs.Labels.{BestLabels}
 use Rattle.paths.specs.Plan.{onward, line_no, out_no}
-
-pub wiped_all :
-    (xs : List ℕ) (n : ℕ) → length xs ≤ n → ((k : ℕ) → k < n → at xs k ≡ 0) → (k : ℕ) → at xs k ≡ 0
-wiped_all xs n long none k =
-    ⊎_elim (λ (l : k < n). none k l) (λ (ge : n ≤ k). get_or_past xs k 0 (omega arith)) (cases_lt k n)
+use Rattle.paths.specs.Ways.{way_at, outs}
+use Rattle.paths.specs.declared.ways.Way.{Way}
+use Rattle.paths.proofs.Zones.{out_set}
 
 -- the first number that passes a test
 module _ (test : ℕ → Bool) (k : ℕ) (none : first k (λ j. when (test j) j) ≡ None) where
@@ -88,7 +87,7 @@ module _ (m : Market) (o : Outcome) (worth far : List ℕ) where
           later = λ u from within. before.later u (omega arith) within;
         }
 
-    pub exits_open : (out : List ℕ) → v < length out → ExitsTo v out → ExitsPast v (set out v 0)
+    exits_open : (out : List ℕ) → v < length out → ExitsTo v out → ExitsPast v (set out v 0)
     exits_open out inside before =
         record {
           done = λ u less.
@@ -98,7 +97,7 @@ module _ (m : Market) (o : Outcome) (worth far : List ℕ) where
               let other : u ≢ v = omega arith in get_or-set_other out v u 0 0 other ∙ before.later u (omega arith) within;
         }
 
-    pub exits_found :
+    exits_found :
         (out : List ℕ) (l n x : ℕ) → v < length out → n ≡ length m.lines → l < n → x ≡ bids m + l + 1 →
         ExitsPast v out → at far v ≢ 0 →
         first l (λ j. when (onward m o worth far v j) j) ≡ None → onward m o worth far v l ≡ true →
@@ -137,3 +136,21 @@ module _ (m : Market) (o : Outcome) (worth far : List ℕ) where
               ];
           later = λ u from within. before.later u (omega arith) within;
         }
+
+    -- the same, in a slice of ways
+    pub ways_open :
+        (ways : List Way) → v < length ways → ExitsTo v (outs ways) →
+        ExitsPast v (outs (set ways v (record (way_at ways v) { out = 0 })))
+    ways_open ways inside before =
+        subst⁻¹ (λ (xs : List ℕ). ExitsPast v xs) (out_set ways v 0)
+        (exits_open (outs ways) (omega (arith, length-map ways (λ (w : Way). w.out))) before)
+
+    pub ways_found :
+        (ways : List Way) (l n x : ℕ) → v < length ways → n ≡ length m.lines → l < n → x ≡ bids m + l + 1 →
+        ExitsPast v (outs ways) → at far v ≢ 0 →
+        first l (λ j. when (onward m o worth far v j) j) ≡ None → onward m o worth far v l ≡ true →
+        ExitsTo (v + 1) (outs (set ways v (record (way_at ways v) { out = x })))
+    ways_found ways l n x inside all less number before away none leads =
+        subst⁻¹ (λ (xs : List ℕ). ExitsTo (v + 1) xs) (out_set ways v x)
+        (exits_found (outs ways) l n x (omega (arith, length-map ways (λ (w : Way). w.out))) all less number before away
+        none leads)

@@ -11,6 +11,7 @@ pub mod Rings
 pub mod Shown
 pub mod Raising
 pub mod Raised
+pub mod Zones
 pub mod Ends
 pub mod Rounds
 pub mod Exits

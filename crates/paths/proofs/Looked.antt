@@ -1,5 +1,7 @@
 -- A bid that is looked at: where it lies, and whether it takes or gives. Assumes nothing.
-use Rattle.std.proofs.Common.{◌≡◌, ℕ, ◌+◌, ◌-◌, ◌<◌, Bool, ◌&&◌, eqb, ltb, List, length, sym, refl, ap, arith}
+use Rattle.std.proofs.Common.{◌≡◌, ℕ, ◌+◌, ◌-◌, ◌<◌, Bool, cond, ◌&&◌, eqb, ltb, List, length, set, sym, refl, ap, ◌∙◌, arith}
+use Rattle.std.proofs.Math.Seq.{map-set_same}
+use Rattle.std.proofs.lemmas.List.{length-set}
 use Rattle.std.proofs.lemmas.Bool.{eq-eqb}
 use Rattle.std.proofs.lemmas.Bool.Decides.{nat_tests}
 use Rattle.hour.specs.Market.{at, bid}
@@ -11,8 +13,11 @@ use Rattle.network.specs.declared.arcs.Item.TheVariants.{Buy, Sell}
 use Rattle.network.specs.declared.tables.Amounts.{Amounts}
 use Rattle.network.specs.declared.tables.Tables.{Tables}
 use Rattle.paths.specs.Bids.{item_no, zone_of, price_of}
-use Rattle.paths.specs.Search.{market_given, outcome_given, Sound, Looks, Takers, Givers, higher, lower, noted}
-use Rattle.paths.proofs.Noted.{takers_more, givers_more}
+use Rattle.paths.specs.Search.{market_given, outcome_given, Sound, Looks, Looked}
+use Rattle.paths.specs.Ways.{no_way, way_at}
+use Rattle.paths.specs.declared.ways.Way.{Way}
+use Rattle.paths.proofs.Noted.{lower, takers_more, givers_more}
+use Rattle.paths.proofs.Zones.{worth_is, out_is, ask_is, giver_is, replaced}
 
 -- a bid in its own zone takes, or gives, where there is room that way
 in_own_zone : (z x y : ℕ) → ltb x y ≡ (eqb z z && ltb 0 (y - x))
@@ -58,26 +63,37 @@ module _ (t : Tables) (o : Amounts) (sound : Sound t o) (k has : ℕ) (b : Bid) 
         gives = rw no_is (in_own_zone _ _ _);
       })
 
--- what is noted of a bid that was looked at
-module _ (t : Tables) (o : Amounts) (n : ℕ) (b : Bid) (tk gv : Bool) (looks : Looks t o n b tk gv) where
-  pub taker_noted :
-      (worth out worth' out' : List ℕ) → t.zones ≡ length worth → t.zones ≡ length out →
-      Takers (market_given t) (outcome_given o) n worth out →
-      worth' ≡ noted higher tk worth worth b.zone (b.price + 1) (b.price + 1) →
-      out' ≡ noted higher tk worth out b.zone (b.price + 1) (n + 1) →
-      Takers (market_given t) (outcome_given o) (n + 1) worth' out'
-  taker_noted worth out worth' out' long_worth long_out sofar new new_out =
-      rw (new, new_out, looks.takes)
-      (takers_more (market_given t) (outcome_given o) n b.zone b.price looks.price looks.zone
-      worth out sofar (omega (arith, looks.within)) (omega (arith, looks.within)))
+-- a bid's zone with what is noted of it
+module _
+    (t : Tables) (o : Amounts) (n : ℕ) (b : Bid) (tk gv : Bool) (looks : Looks t o n b tk gv)
+    (ways : List Way) (looked : Looked t o n ways) (w : Way) (dearer cheaper : Bool)
+    (takes_over : dearer ≡ ltb (way_at ways b.zone).worth (b.price + 1))
+    (gives_over : cheaper ≡ lower (way_at ways b.zone).ask (b.price + 1))
+    (worth : w.worth ≡ cond (tk && dearer) (b.price + 1) (way_at ways b.zone).worth)
+    (out : w.out ≡ cond (tk && dearer) (n + 1) (way_at ways b.zone).out)
+    (ask : w.ask ≡ cond (gv && cheaper) (b.price + 1) (way_at ways b.zone).ask)
+    (giver : w.giver ≡ cond (gv && cheaper) (n + 1) (way_at ways b.zone).giver)
+    (far : w.far ≡ (way_at ways b.zone).far)
+  where
+    inside : b.zone < length ways
+    inside = omega (arith, looks.within, looked.zones)
 
-  pub giver_noted :
-      (ask giver ask' giver' : List ℕ) → t.zones ≡ length ask → t.zones ≡ length giver →
-      Givers (market_given t) (outcome_given o) n ask giver →
-      ask' ≡ noted lower gv ask ask b.zone (b.price + 1) (b.price + 1) →
-      giver' ≡ noted lower gv ask giver b.zone (b.price + 1) (n + 1) →
-      Givers (market_given t) (outcome_given o) (n + 1) ask' giver'
-  giver_noted ask giver ask' giver' long_ask long_giver sofar new new_giver =
-      rw (new, new_giver, looks.gives)
-      (givers_more (market_given t) (outcome_given o) n b.zone b.price looks.price looks.zone
-      ask giver sofar (omega (arith, looks.within)) (omega (arith, looks.within)))
+    pub bid_looked : Looked t o (n + 1) (set ways b.zone w)
+    bid_looked =
+        record {
+          zones = length-set ways b.zone w ∙ looked.zones;
+          takers =
+              takers_more (market_given t) (outcome_given o) n b.zone b.price looks.price looks.zone _ _ _ _ looked.takers
+              (replaced (λ (x : Way). x.worth) ways b.zone w _ inside
+              (worth ∙ rw (looks.takes, takes_over, worth_is ways b.zone)))
+              (replaced (λ (x : Way). x.out) ways b.zone w _ inside
+              (out ∙ rw (looks.takes, takes_over, worth_is ways b.zone, out_is ways b.zone)));
+          givers =
+              givers_more (market_given t) (outcome_given o) n b.zone b.price looks.price looks.zone _ _ _ _ looked.givers
+              (replaced (λ (x : Way). x.ask) ways b.zone w _ inside
+              (ask ∙ rw (looks.gives, gives_over, ask_is ways b.zone)))
+              (replaced (λ (x : Way). x.giver) ways b.zone w _ inside
+              (giver ∙ rw (looks.gives, gives_over, ask_is ways b.zone, giver_is ways b.zone)));
+          near = λ v.
+              ap (λ xs. at xs v) (map-set_same (λ (x : Way). x.far) ways b.zone w no_way far) ∙ looked.near v;
+        }

@@ -1,33 +1,17 @@
 -- The best bid of each zone, noted bid by bid. Assumes nothing.
-use Rattle.std.proofs.Common.{◌≡◌, ℕ, ◌+◌, ◌<◌, Bool, true, false, cond, eqb, ◌≢◌, List, length, set, Some, None, Option, sym, refl, ap, ◌∙◌, ⊎_elim, add-one, arith}
+use Rattle.std.proofs.Common.{◌≡◌, ℕ, ◌+◌, ◌<◌, Bool, true, false, cond, ◌&&◌, ◌||◌, eqb, ltb, ◌≢◌, List, Some, None, Option, sym, refl, ap, ◌∙◌, ⊎_elim, add-one, arith}
 use mathlib.Core.Path.{subst⁻¹}
-use Rattle.std.proofs.lemmas.List.{get_or-set_same, get_or-set_other}
 use Rattle.std.proofs.lemmas.Bool.{cases_eq, lt-ltb, ne_eqb, and_left}
 use Rattle.std.proofs.lemmas.Bool.Decides.{nat_tests}
 use Rattle.hour.specs.Market.{Market, Outcome, at}
 use Rattle.paths.specs.Best.{better, best, numbered}
 use Rattle.paths.specs.Bids.{item_no, zone_of, price_of, worth_at, takes, gives, dearer, cheaper}
-use Rattle.paths.specs.Search.{Noted, Takers, Givers, higher, lower, noted}
+use Rattle.paths.specs.Search.{Noted, Takers, Givers}
+use Rattle.paths.proofs.Zones.{Replaced}
 
-at_noted_same :
-    (wins : ℕ → ℕ → Bool) (ok : Bool) (ws xs : List ℕ) (z new x : ℕ) → z < length xs →
-    at (noted wins ok ws xs z new x) z ≡ cond ok (cond (wins (at ws z) new) x (at xs z)) (at xs z)
-at_noted_same wins false ws xs z new x within = refl
-at_noted_same wins true ws xs z new x within = go (wins (at ws z) new)
-  where
-    go : (b : Bool) → at (cond b (set xs z x) xs) z ≡ cond b x (at xs z)
-    go true = get_or-set_same xs z x 0 within
-    go false = refl
-
-at_noted_other :
-    (wins : ℕ → ℕ → Bool) (ok : Bool) (ws xs : List ℕ) (z new x y : ℕ) → y ≢ z →
-    at (noted wins ok ws xs z new x) y ≡ at xs y
-at_noted_other wins false ws xs z new x y other = refl
-at_noted_other wins true ws xs z new x y other = go (wins (at ws z) new)
-  where
-    go : (b : Bool) → at (cond b (set xs z x) xs) y ≡ at xs y
-    go true = get_or-set_other xs z y x 0 other
-    go false = refl
+-- the best so far asks for more than a bid, or there is none
+abbrev pub lower : ℕ → ℕ → Bool
+lower old new = eqb old 0 || ltb new old
 
 -- Idea: the table's test between the old worth and the new one is the test by which the definition lets a bid beat another.
 module _
@@ -37,7 +21,7 @@ module _
   where
     worth_noted :
         (n p w : ℕ) (b : Bool) (o : Option ℕ) → p ≡ price_of m (item_no m n) → w ≡ worth_at m o →
-        cond b (cond (wins w (p + 1)) (p + 1) w) w ≡ worth_at m (cond b (better beats n o) o)
+        cond (b && wins w (p + 1)) (p + 1) w ≡ worth_at m (cond b (better beats n o) o)
     worth_noted n p w false o price is = is
     worth_noted n p w true None price is =
         let won : wins w (p + 1) ≡ true = ap (λ (x : ℕ). wins x (p + 1)) is ∙ first_wins p in
@@ -53,7 +37,7 @@ module _
 
     number_noted :
         (n p w x : ℕ) (b : Bool) (o : Option ℕ) → p ≡ price_of m (item_no m n) → w ≡ worth_at m o → x ≡ numbered o →
-        cond b (cond (wins w (p + 1)) (n + 1) x) x ≡ numbered (cond b (better beats n o) o)
+        cond (b && wins w (p + 1)) (n + 1) x ≡ numbered (cond b (better beats n o) o)
     number_noted n p w x false o price is no_is = no_is
     number_noted n p w x true None price is no_is =
         let won : wins w (p + 1) ≡ true = ap (λ (y : ℕ). wins y (p + 1)) is ∙ first_wins p in
@@ -68,12 +52,12 @@ module _
         go false = no_is
 
     pub noted_more :
-        (ok : ℕ → ℕ → Bool) (n zone p : ℕ) (ws xs : List ℕ) → Noted m ok beats n ws xs →
-        zone < length ws → zone < length xs → p ≡ price_of m (item_no m n) →
-        ((z : ℕ) → z ≢ zone → ok z n ≡ false) →
-        Noted m ok beats (n + 1)
-        (noted wins (ok zone n) ws ws zone (p + 1) (p + 1)) (noted wins (ok zone n) ws xs zone (p + 1) (n + 1))
-    noted_more ok n zone p ws xs sofar in_ws in_xs price elsewhere =
+        (ok : ℕ → ℕ → Bool) (n zone p : ℕ) (ws xs ws' xs' : List ℕ) → Noted m ok beats n ws xs →
+        p ≡ price_of m (item_no m n) → ((z : ℕ) → z ≢ zone → ok z n ≡ false) →
+        Replaced zone (cond (ok zone n && wins (at ws zone) (p + 1)) (p + 1) (at ws zone)) ws ws' →
+        Replaced zone (cond (ok zone n && wins (at ws zone) (p + 1)) (n + 1) (at xs zone)) xs xs' →
+        Noted m ok beats (n + 1) ws' xs'
+    noted_more ok n zone p ws xs ws' xs' sofar price elsewhere worth number =
         record {
           worth = λ z within. ⊎_elim (worth_here z within) (worth_there z within) (cases_eq z zone);
           number = λ z within. ⊎_elim (number_here z within) (number_there z within) (cases_eq z zone);
@@ -88,16 +72,16 @@ module _
         more = rw (add-one n)
 
         Worth : ℕ → Type 0
-        Worth z = at (noted wins (ok zone n) ws ws zone (p + 1) (p + 1)) z ≡ worth_at m (best (n + 1) (ok z) beats)
+        Worth z = at ws' z ≡ worth_at m (best (n + 1) (ok z) beats)
 
         Number : ℕ → Type 0
-        Number z = at (noted wins (ok zone n) ws xs zone (p + 1) (n + 1)) z ≡ numbered (best (n + 1) (ok z) beats)
+        Number z = at xs' z ≡ numbered (best (n + 1) (ok z) beats)
 
         worth_here : (z : ℕ) → z < m.zones → z ≡ zone → Worth z
         worth_here z within same =
             let inside : zone < m.zones = omega arith in
             subst⁻¹ Worth same
-            (at_noted_same wins (ok zone n) ws ws zone (p + 1) (p + 1) in_ws
+            (worth.here
             ∙ (worth_noted n p (at ws zone) (ok zone n) (best n (ok zone) beats) price (sofar.worth zone inside)
             ∙ ap (worth_at m) (sym more)))
 
@@ -105,41 +89,39 @@ module _
         number_here z within same =
             let inside : zone < m.zones = omega arith in
             subst⁻¹ Number same
-            (at_noted_same wins (ok zone n) ws xs zone (p + 1) (n + 1) in_xs
+            (number.here
             ∙ (number_noted n p (at ws zone) (at xs zone) (ok zone n) (best n (ok zone) beats)
             price (sofar.worth zone inside) (sofar.number zone inside)
             ∙ ap numbered (sym more)))
 
         worth_there : (z : ℕ) → z < m.zones → z ≢ zone → Worth z
         worth_there z within other =
-            at_noted_other wins (ok zone n) ws ws zone (p + 1) (p + 1) z other
-            ∙ (sofar.worth z within ∙ ap (worth_at m) (skip z other))
+            worth.elsewhere z other ∙ (sofar.worth z within ∙ ap (worth_at m) (skip z other))
 
         number_there : (z : ℕ) → z < m.zones → z ≢ zone → Number z
         number_there z within other =
-            at_noted_other wins (ok zone n) ws xs zone (p + 1) (n + 1) z other
-            ∙ (sofar.number z within ∙ ap numbered (skip z other))
+            number.elsewhere z other ∙ (sofar.number z within ∙ ap numbered (skip z other))
 
--- The two tables: a taker wins where its price is higher, a giver where it is lower or the first.
+-- A taker wins where its price is higher, a giver where it is lower or the first.
 module _ (m : Market) (o : Outcome) (n zone p : ℕ) (price : p ≡ price_of m (item_no m n))
     (here : zone_of m (item_no m n) ≡ zone) where
   apart : (z : ℕ) → z ≢ zone → eqb (zone_of m (item_no m n)) z ≡ false
   apart z other = ne_eqb (zone_of m (item_no m n)) z (λ (e : zone_of m (item_no m n) ≡ z). other (sym e ∙ here))
 
   pub takers_more :
-      (worth out : List ℕ) → Takers m o n worth out → zone < length worth → zone < length out →
-      Takers m o (n + 1)
-      (noted higher (takes m o zone n) worth worth zone (p + 1) (p + 1))
-      (noted higher (takes m o zone n) worth out zone (p + 1) (n + 1))
-  takers_more worth out sofar in_worth in_out =
-      noted_more m (dearer m) higher (λ q. lt-ltb 0 (q + 1) (omega arith)) (λ j k. grind (arith, nat_tests))
-      (takes m o) n zone p worth out sofar in_worth in_out price (λ z other. and_left _ _ (apart z other))
+      (worth out worth' out' : List ℕ) → Takers m o n worth out →
+      Replaced zone (cond (takes m o zone n && ltb (at worth zone) (p + 1)) (p + 1) (at worth zone)) worth worth' →
+      Replaced zone (cond (takes m o zone n && ltb (at worth zone) (p + 1)) (n + 1) (at out zone)) out out' →
+      Takers m o (n + 1) worth' out'
+  takers_more worth out worth' out' sofar new new_out =
+      noted_more m (dearer m) ltb (λ q. lt-ltb 0 (q + 1) (omega arith)) (λ j k. grind (arith, nat_tests))
+      (takes m o) n zone p worth out worth' out' sofar price (λ z other. and_left _ _ (apart z other)) new new_out
 
   pub givers_more :
-      (ask giver : List ℕ) → Givers m o n ask giver → zone < length ask → zone < length giver →
-      Givers m o (n + 1)
-      (noted lower (gives m o zone n) ask ask zone (p + 1) (p + 1))
-      (noted lower (gives m o zone n) ask giver zone (p + 1) (n + 1))
-  givers_more ask giver sofar in_ask in_giver =
+      (ask giver ask' giver' : List ℕ) → Givers m o n ask giver →
+      Replaced zone (cond (gives m o zone n && lower (at ask zone) (p + 1)) (p + 1) (at ask zone)) ask ask' →
+      Replaced zone (cond (gives m o zone n && lower (at ask zone) (p + 1)) (n + 1) (at giver zone)) giver giver' →
+      Givers m o (n + 1) ask' giver'
+  givers_more ask giver ask' giver' sofar new new_giver =
       noted_more m (cheaper m) lower (λ q. refl) (λ j k. grind (arith, nat_tests))
-      (gives m o) n zone p ask giver sofar in_ask in_giver price (λ z other. and_left _ _ (apart z other))
+      (gives m o) n zone p ask giver ask' giver' sofar price (λ z other. and_left _ _ (apart z other)) new new_giver

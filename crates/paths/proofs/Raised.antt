@@ -1,14 +1,18 @@
 -- One label raised, or not: what holds of the labels afterwards. Assumes nothing.
-use Rattle.std.proofs.Common.{◌≡◌, ℕ, suc, ◌+◌, ◌<◌, ◌≤◌, Bool, true, false, cond, eqb, ltb, List, set, sym, refl, inl, inr, arith}
+use Rattle.std.proofs.Common.{◌≡◌, ℕ, suc, ◌+◌, ◌<◌, ◌≤◌, Bool, true, false, cond, eqb, ltb, List, set, sym, refl, ap, ◌∙◌, subst₂, inl, inr, arith}
+use Rattle.std.proofs.lemmas.List.{map-set}
 use Rattle.std.proofs.lemmas.Bool.{or_cases, or_parts, and_parts, and_cases, ltb-true, ltb-false, eqb-true, eqb-false}
 use Rattle.hour.specs.Market.{Proper, at}
 use Rattle.network.specs.declared.tables.Amounts.{Amounts}
 use Rattle.network.specs.declared.tables.Tables.{Tables}
-use Rattle.paths.specs.Keys.{Raises}
+use Rattle.paths.specs.Keys.{Raises, left}
 use Rattle.paths.specs.Labels.{Over, NoBetter}
-use Rattle.paths.specs.Search.{market_given, outcome_given, rises, Settling, Raised, top}
+use Rattle.paths.specs.Search.{market_given, outcome_given, rises, Reaching, Settling, Raised, top}
+use Rattle.paths.specs.Ways.{way_at, way_better, over_line, worths, fars}
+use Rattle.paths.specs.declared.ways.Way.{Way}
 use Rattle.paths.proofs.Keys.{left_falls}
 use Rattle.paths.proofs.Raising.{reaching_raised}
+use Rattle.paths.proofs.Zones.{worth_is, far_is, keeps_same, keeps_over}
 
 -- the test of the code, in words
 module _ (worth far : List ℕ) (v w : ℕ) where
@@ -51,48 +55,65 @@ module _ (worth far : List ℕ) (v w : ℕ) where
 
 -- the answer of a raise, and what it leaves
 module _
-    (t : Tables) (o : Amounts) (worth far worth' far' : List ℕ) (l v w rose : ℕ)
-    (proper : Proper (market_given t)) (before : Settling t o worth far) (v_below : v < t.zones) (w_below : w < t.zones)
+    (t : Tables) (o : Amounts) (ways ways' : List Way) (l v w rose : ℕ)
+    (proper : Proper (market_given t)) (before : Settling t o ways) (v_below : v < t.zones) (w_below : w < t.zones)
     (over : Over (market_given t) (outcome_given o) l v w)
-    (answer : rose ≡ cond (rises worth far v w) 1 0)
-    (new_worth : worth' ≡ cond (rises worth far v w) (set worth v (at worth w)) worth)
-    (new_far : far' ≡ cond (rises worth far v w) (set far v (at far w + 1)) far)
+    (answer : rose ≡ cond (way_better (way_at ways v) (way_at ways w)) 1 0)
+    (new : ways' ≡ cond (way_better (way_at ways v) (way_at ways w)) (set ways v (over_line (way_at ways v) (way_at ways w))) ways)
   where
+    better_rises : way_better (way_at ways v) (way_at ways w) ≡ rises (worths ways) (fars ways) v w
+    better_rises = sym (rw (worth_is ways v, worth_is ways w, far_is ways v, far_is ways w))
+
+    new_worth : worths (set ways v (over_line (way_at ways v) (way_at ways w))) ≡ set (worths ways) v (at (worths ways) w)
+    new_worth = map-set (λ (x : Way). x.worth) ways v _ ∙ ap (set (worths ways) v) (sym (worth_is ways w))
+
+    new_far : fars (set ways v (over_line (way_at ways v) (way_at ways w))) ≡ set (fars ways) v (at (fars ways) w + 1)
+    new_far = map-set (λ (x : Way). x.far) ways v _ ∙ ap (λ k. set (fars ways) v (k + 1)) (sym (far_is ways w))
+
     After : Bool → Type 0
     After b =
-        rises worth far v w ≡ b → rose ≡ cond b 1 0 → worth' ≡ cond b (set worth v (at worth w)) worth →
-        far' ≡ cond b (set far v (at far w + 1)) far →
-        Raised t o worth far rose worth' far'
-        × (rose ≡ 0 → 0 < at worth w → NoBetter (at worth w) (suc (at far w)) (at worth v) (at far v))
+        rises (worths ways) (fars ways) v w ≡ b → rose ≡ cond b 1 0 →
+        ways' ≡ cond b (set ways v (over_line (way_at ways v) (way_at ways w))) ways →
+        Raised t o ways rose ways'
+        × (rose ≡ 0 → 0 < at (worths ways) w →
+        NoBetter (at (worths ways) w) (suc (at (fars ways) w)) (at (worths ways) v) (at (fars ways) v))
 
     after : (b : Bool) → After b
     unfolding After
-    after true is one set_worth set_far =
-        let raises = rises_raises worth far v w is in (
-          rw (set_worth, set_far, one)
+    after true is one set_way =
+        let raises = rises_raises (worths ways) (fars ways) v w is in (
+          rw (set_way, one)
               (record {
                 settling =
-                    reaching_raised (market_given t) (outcome_given o) top worth far l v w
-                    proper before over (rises_some worth far v w is) raises;
-                falls = omega (arith, left_falls t.zones top worth far v w before.keyed v_below w_below raises);
-                same_worth = λ (e : ◌≡◌ {A = ℕ} 1 0). absurd (omega arith);
-                same_far = λ (e : ◌≡◌ {A = ℕ} 1 0). absurd (omega arith);
+                    subst₂ (λ ws fs. Reaching (market_given t) (outcome_given o) top ws fs) (sym new_worth) (sym new_far)
+                    (reaching_raised (market_given t) (outcome_given o) top (worths ways) (fars ways) l v w
+                    proper before over (rises_some (worths ways) (fars ways) v w is) raises);
+                falls =
+                    subst₂ (λ ws fs. 1 + left t.zones top ws fs ≤ left t.zones top (worths ways) (fars ways))
+                    (sym new_worth) (sym new_far)
+                    (omega (arith, left_falls t.zones top (worths ways) (fars ways) v w before.keyed v_below w_below raises));
+                same = λ (e : ◌≡◌ {A = ℕ} 1 0). absurd (omega arith);
+                bids = keeps_over ways v (way_at ways w);
               }),
           λ none some. absurd (omega arith),
         )
-    after false is none set_worth set_far = (
-      rw (set_worth, set_far, none)
+    after false is none set_way = (
+      rw (set_way, none)
           (record {
             settling = before;
             falls = omega arith;
-            same_worth = λ e. refl;
-            same_far = λ e. refl;
+            same = λ e. refl;
+            bids = keeps_same ways;
           }),
-      λ zero_rose some. no_rise worth far v w is some,
+      λ zero_rose some. no_rise (worths ways) (fars ways) v w is some,
     )
 
     pub raise_done :
-        Raised t o worth far rose worth' far'
-        × (rose ≡ 0 → 0 < at worth w → NoBetter (at worth w) (suc (at far w)) (at worth v) (at far v))
+        Raised t o ways rose ways'
+        × (rose ≡ 0 → 0 < at (worths ways) w →
+        NoBetter (at (worths ways) w) (suc (at (fars ways) w)) (at (worths ways) v) (at (fars ways) v))
     unfolding After
-    raise_done = after (rises worth far v w) refl answer new_worth new_far
+    raise_done =
+        after (rises (worths ways) (fars ways) v w) refl
+        (answer ∙ ap (λ (b : Bool). cond b 1 0) better_rises)
+        (new ∙ ap (λ (b : Bool). cond b (set ways v (over_line (way_at ways v) (way_at ways w))) ways) better_rises)

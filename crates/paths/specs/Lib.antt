@@ -5,3 +5,4 @@ pub mod Plan
 pub mod Keys
 pub mod Search
 pub mod Promises
+pub mod Ways

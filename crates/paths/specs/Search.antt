@@ -1,21 +1,20 @@
 -- What holds while a search goes on. Assumes nothing: these are definitions.
 --
---   market_given t         the market that tables hold; outcome_given o the outcome that lists of amounts hold; plan_in the
---                          plan that five tables hold
+--   market_given t         the market that tables hold; outcome_given o the outcome that lists of amounts hold
 --   Bounded t              the tables are those of a proper market, small enough to count in 64 bits
 --   Spaced t ..            there is an amount for each bid and a flow for each line
 --   Sound t o              both
---   Long zones ..          tables with a number for each zone
---   Takers, Givers         worth and out have, for each zone, what the best taker among the first n bids is worth and its
---                          number; ask and giver have the same of the best giver
 --   Looks t o n b ..       what is seen of the bid with number n
---   noted wins ok ws xs z new x   xs with x in place z, if ok and the worth `new` wins over the one that ws has there
+--   Takers, Givers         two lists have, for each zone, what the best taker among the first n bids is worth and its number; or
+--                          the best giver
+--   Looked t o n ways      ways have both of the first n bids, and none leads over a line yet
 --   rises worth far v w    the way over a line from v to w is better than the one that v has
 --   Reaching m o top worth far    each label above 0 is that of a free way, no own taker is better than its zone's label, and
 --                          the labels are keyed (see Keys)
 --   Relaxed m o worth far l       line l, forward or backward, raises no label
 --   Settling, Raised       what holds of labels while they are raised; what raising some of them keeps
-use Rattle.std.specs.Prelude.{◌≡◌, ℕ, suc, ◌+◌, ◌-◌, ◌^◌, ◌<◌, ◌≤◌, Bool, cond, ◌&&◌, ◌||◌, List, length, ◌==◌, nat_lt, slice_set}
+--   KeepsBids, KeepsAllButOut     of two slices of ways: what a change of the labels, or of the ways out, leaves as it was
+use Rattle.std.specs.Prelude.{◌≡◌, ℕ, suc, ◌+◌, ◌-◌, ◌^◌, ◌<◌, ◌≤◌, Bool, cond, ◌&&◌, ◌||◌, List, length, ◌==◌, nat_lt}
 use Rattle.hour.specs.Market.{Market, Outcome, Proper, at, bid}
 use Rattle.hour.specs.declared.items.Bid.{Bid}
 use Rattle.network.specs.Tables.{items, market_in, outcome_in}
@@ -30,16 +29,14 @@ use Rattle.paths.specs.Best.{best, numbered}
 use Rattle.paths.specs.Bids.{item_no, zone_of, price_of, takes, gives, dearer, cheaper, worth_at, own}
 use Rattle.paths.specs.Keys.{Keyed, left}
 use Rattle.paths.specs.Labels.{Along, Leads, NoBetter}
-use Rattle.paths.specs.Plan.{Plan}
+use Rattle.paths.specs.Ways.{worths, fars, outs, asks, givers}
+use Rattle.paths.specs.declared.ways.Way.{Way}
 
 abbrev pub market_given : Tables → Market
 market_given t = market_in t.zones t.buys.now t.sells.now t.lines.now
 
 abbrev pub outcome_given : Amounts → Outcome
 outcome_given o = outcome_in o.bought.now o.sold.now o.flow.now
-
-abbrev pub plan_in : List ℕ → List ℕ → List ℕ → List ℕ → List ℕ → Plan
-plan_in worth far out ask giver = record { worth = worth; far = far; out = out; ask = ask; giver = giver }
 
 -- tables of a proper market, small enough to count in 64 bits
 pub record Bounded (t : Tables) : Type 0 where
@@ -62,13 +59,6 @@ pub record Sound (t : Tables) (o : Amounts) : Type 0 where
   pub tables : Bounded t
   pub spaced : Spaced t o.bought.now o.sold.now o.flow.now
 
--- tables with a number for each zone
-pub record Long (zones : ℕ) (worth out ask giver : List ℕ) : Type 0 where
-  pub worth_long : length worth ≡ zones
-  pub out_long : length out ≡ zones
-  pub ask_long : length ask ≡ zones
-  pub giver_long : length giver ≡ zones
-
 -- tables have, for each zone, the best among the first n bids that are ok there: what it is worth, and its number
 pub record Noted
     (m : Market) (ok : ℕ → ℕ → Bool) (beats : ℕ → ℕ → Bool) (n : ℕ) (worths numbers : List ℕ) : Type 0 where
@@ -85,21 +75,17 @@ pub record Looks (t : Tables) (o : Amounts) (n : ℕ) (b : Bid) (taking giving :
   pub takes : taking ≡ takes (market_given t) (outcome_given o) b.zone n
   pub gives : giving ≡ gives (market_given t) (outcome_given o) b.zone n
 
--- how a bid is noted in its zone: where it is ok and its worth wins over the one that is there
-abbrev pub higher : ℕ → ℕ → Bool
-higher old new = nat_lt old new
-
-abbrev pub lower : ℕ → ℕ → Bool
-lower old new = old == 0 || nat_lt new old
-
-abbrev pub noted : (ℕ → ℕ → Bool) → Bool → List ℕ → List ℕ → ℕ → ℕ → ℕ → List ℕ
-noted wins ok worths xs z new x = cond ok (cond (wins (at worths z) new) (slice_set xs z x) xs) xs
-
 abbrev pub Takers : Market → Outcome → ℕ → List ℕ → List ℕ → Type 0
 Takers m o n worth out = Noted m (takes m o) (dearer m) n worth out
 
 abbrev pub Givers : Market → Outcome → ℕ → List ℕ → List ℕ → Type 0
 Givers m o n ask giver = Noted m (gives m o) (cheaper m) n ask giver
+
+pub record Looked (t : Tables) (o : Amounts) (n : ℕ) (ways : List Way) : Type 0 where
+  pub zones : length ways ≡ t.zones
+  pub takers : Takers (market_given t) (outcome_given o) n (worths ways) (outs ways)
+  pub givers : Givers (market_given t) (outcome_given o) n (asks ways) (givers ways)
+  pub near : (v : ℕ) → at (fars ways) v ≡ 0
 
 abbrev pub rises : List ℕ → List ℕ → ℕ → ℕ → Bool
 rises worth far v w =
@@ -129,12 +115,23 @@ turned from_last n j = cond from_last (n - 1 - j) j
 abbrev pub top : ℕ
 top = 2 ^ 32
 
-abbrev pub Settling : Tables → Amounts → List ℕ → List ℕ → Type 0
-Settling t o worth far = Reaching (market_given t) (outcome_given o) top worth far
+abbrev pub Settling : Tables → Amounts → List Way → Type 0
+Settling t o ways = Reaching (market_given t) (outcome_given o) top (worths ways) (fars ways)
 
--- from one pair of tables to another by raising so many labels
-pub record Raised (t : Tables) (o : Amounts) (worth far : List ℕ) (rose : ℕ) (worth' far' : List ℕ) : Type 0 where
-  pub settling : Settling t o worth' far'
-  pub falls : rose + left t.zones top worth' far' ≤ left t.zones top worth far
-  pub same_worth : rose ≡ 0 → worth' ≡ worth
-  pub same_far : rose ≡ 0 → far' ≡ far
+pub record KeepsBids (old new : List Way) : Type 0 where
+  pub out : outs new ≡ outs old
+  pub ask : asks new ≡ asks old
+  pub giver : givers new ≡ givers old
+
+pub record KeepsAllButOut (old new : List Way) : Type 0 where
+  pub worth : worths new ≡ worths old
+  pub far : fars new ≡ fars old
+  pub ask : asks new ≡ asks old
+  pub giver : givers new ≡ givers old
+
+-- from ways to others by raising so many labels
+pub record Raised (t : Tables) (o : Amounts) (ways : List Way) (rose : ℕ) (ways' : List Way) : Type 0 where
+  pub settling : Settling t o ways'
+  pub falls : rose + left t.zones top (worths ways') (fars ways') ≤ left t.zones top (worths ways) (fars ways)
+  pub same : rose ≡ 0 → ways' ≡ ways
+  pub bids : KeepsBids ways ways'

@@ -5,5 +5,7 @@ pub mod promises;
 mod relax;
 mod search;
 mod takers;
+mod ways;
 
-pub use search::{Ways, find_ways};
+pub use search::find_ways;
+pub use ways::{Way, way_at};

@@ -6,9 +6,9 @@ pub loop-k-preserved : goal.loop-k-preserved
 loop-k-preserved c =
     let inv = c.loop-k.invariant in
     let raised = c.relax-rose.ensures.raised in (
-      raised_more _ _ _ _ _ _ _ _ _ _ inv.0 raised,
+      raised_more _ _ _ _ _ _ _ inv.0 raised,
       omega (arith, inv.1, c.relax-rose.ensures.few),
-      relaxed_more _ _ _ _ _ _ c.args.from_last _ c.loop-k.k _ _ _
+      relaxed_more _ _ _ _ c.args.from_last _ c.loop-k.k _ _ _
           inv.2 c.relax-rose.ensures.relaxed c.turn.ensures.value raised,
     )
 
@@ -17,6 +17,6 @@ returns c =
     record {
       raised = c.loop-k.invariant.0;
       relaxed = λ none.
-          relaxed_all c.args.t c.args.o c.loop-k.worth c.loop-k.far c.args.from_last _ c.loop-k.k
+          relaxed_all c.args.t c.args.o c.loop-k.ways c.args.from_last _ c.loop-k.k
           (omega arith) (c.loop-k.invariant.2 none);
     }

@@ -1,10 +1,11 @@
 use Rattle.std.proofs.Common.{◌≡◌, ℕ, ◌*◌, ◌<◌, ◌≤◌}
 use Rattle.paths.specs.Search.{market_given, outcome_given, Raised, Relaxed, turned}
+use Rattle.paths.specs.Ways.{worths, fars}
 use Rattle.paths.proofs.relax.round.Given as goal
 
 abbrev pub invariant-loop-k : goal.invariant-loop-k
 invariant-loop-k l =
-    Raised l.t l.o l.initial.worth l.initial.far l.rose l.worth l.far
+    Raised l.t l.o l.initial.ways l.rose l.ways
     × (l.rose ≤ 2 * l.k)
     × (l.rose ≡ 0 → (j : ℕ) → j < l.k →
-    Relaxed (market_given l.t) (outcome_given l.o) l.worth l.far (turned l.from_last l.lines j))
+    Relaxed (market_given l.t) (outcome_given l.o) (worths l.ways) (fars l.ways) (turned l.from_last l.lines j))

@@ -1,46 +1,33 @@
-use Rattle.std.proofs.Common.{arith}
+use Rattle.std.proofs.Common.{ap, ◌∙◌, arith}
+use Rattle.hour.specs.Market.{at}
 use Rattle.paths.specs.Plan.{Planned}
-use Rattle.paths.specs.Search.{market_given, outcome_given, plan_in}
-use Rattle.paths.proofs.Searched.{settling_start, taker_known, giver_known, ask_known}
+use Rattle.paths.specs.Search.{market_given, outcome_given}
+use Rattle.paths.specs.Ways.{plan_of}
+use Rattle.paths.proofs.Searched.{nothing_looked, settling_start, taker_known, planned_ways}
 use Rattle.paths.proofs.Shown.{plan_shown}
 use Rattle.paths.proofs.search.plan_ways.Goals as goal
 
-pub settle-requires : goal.settle-requires
-settle-requires c =
+pub look_at_buys-requires : goal.look_at_buys-requires
+look_at_buys-requires c =
     record {
       sound = c.requires.sound;
-      settling =
-          settling_start _ _ c.requires.sound _ _ c.look_at_sells.ensures.takers _
-          (omega arith) (omega arith) c.wipe-2.ensures;
+      looked = nothing_looked _ _ _ _ c.requires.zones (c.fill.ensures.after (λ y same. same));
     }
 
-pub ways_out-requires : goal.ways_out-requires
-ways_out-requires c =
-    record {
-      sound = c.requires.sound;
-      tables = omega arith;
-      labels = c.settle.ensures.labels;
-      takers = taker_known _ _ c.requires.sound _ _ c.look_at_sells.ensures.takers;
-    }
+pub settle-requires : goal.settle-requires
+settle-requires c =
+    record { sound = c.requires.sound; settling = settling_start _ _ c.requires.sound _ c.look_at_sells.ensures }
+
+pub ways_out-requires-clause-takers : goal.ways_out-requires-clause-takers
+ways_out-requires-clause-takers c v below =
+    ap (λ xs. at xs v) c.settle.ensures.bids.out
+    ∙ taker_known _ _ c.requires.sound _ _ c.look_at_sells.ensures.takers v below
 
 pub returns : goal.returns
 returns c =
-    let planned :
-    Planned (market_given c.args.t) (outcome_given c.args.o)
-    (plan_in c.settle.new.worth c.settle.new.far c.ways_out.new.out
-    c.look_at_sells.new.ask c.look_at_sells.new.giver)
-    =
-    record {
-      labels = c.settle.ensures.labels;
-      out = c.ways_out.ensures;
-      ask = ask_known _ _ c.requires.sound _ _ c.look_at_sells.ensures.givers;
-      giver = giver_known _ _ c.requires.sound _ _ c.look_at_sells.ensures.givers;
-      worth_long = c.settle.ensures.worth_long;
-      far_long = c.settle.ensures.far_long;
-      out_long = omega arith;
-      ask_long = omega arith;
-      giver_long = omega arith;
-    }
+    let planned : Planned (market_given c.args.t) (outcome_given c.args.o) (plan_of c.ways_out.new.ways) =
+    planned_ways _ _ c.requires.sound _ _ _ (omega arith) c.look_at_sells.ensures c.settle.ensures.labels
+    c.settle.ensures.bids c.ways_out.ensures.out c.ways_out.ensures.others
     in
     record {
       planned = planned;

@@ -1,14 +1,22 @@
 use Rattle.std.proofs.Common.{◌≡◌, None}
 use Rattle.hour.specs.First.{when, first}
 use Rattle.paths.specs.Plan.{onward}
-use Rattle.paths.specs.Search.{market_given, outcome_given}
+use Rattle.paths.specs.Search.{market_given, outcome_given, KeepsAllButOut}
+use Rattle.paths.specs.Ways.{worths, fars, outs}
 use Rattle.paths.proofs.Exits.{ExitsTo, ExitsPast}
 use Rattle.paths.proofs.search.ways_out.Given as goal
 
 abbrev pub invariant-loop-l : goal.invariant-loop-l
 invariant-loop-l l =
-    ExitsPast (market_given l.t) (outcome_given l.o) l.worth l.far l.v l.out
-    × (first l.l (λ j. when (onward (market_given l.t) (outcome_given l.o) l.worth l.far l.v j) j) ≡ None)
+    let ways = l.fn.ways in record {
+      exits : ExitsPast (market_given l.t) (outcome_given l.o) (worths ways) (fars ways) l.v (outs l.ways);
+      none : first l.l (λ j. when (onward (market_given l.t) (outcome_given l.o) (worths ways) (fars ways) l.v j) j) ≡ None;
+      others : KeepsAllButOut ways l.ways;
+    }
 
 abbrev pub invariant-zones : goal.invariant-zones
-invariant-zones l = ExitsTo (market_given l.t) (outcome_given l.o) l.worth l.far l.v l.out
+invariant-zones l =
+    let ways = l.fn.ways in record {
+      exits : ExitsTo (market_given l.t) (outcome_given l.o) (worths ways) (fars ways) l.v (outs l.ways);
+      others : KeepsAllButOut ways l.ways;
+    }

@@ -1,4 +1,4 @@
-use Rattle.std.proofs.Common.{refl, arith}
+use Rattle.std.proofs.Common.{refl}
 use Rattle.paths.proofs.Looked.{buy_looks}
 use Rattle.paths.proofs.takers.look_at_buys.Goals as goal
 
@@ -6,7 +6,5 @@ pub look-requires : goal.look-requires
 look-requires c =
     record {
       looks = buy_looks _ _ c.requires.sound _ _ _ c.loop-k-test.true c.bid_in-bid.ensures refl;
-      tables = omega arith;
-      takers = c.loop-k.invariant.0;
-      givers = c.loop-k.invariant.1;
+      looked = c.loop-k.invariant;
     }

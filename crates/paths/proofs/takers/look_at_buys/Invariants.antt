@@ -1,7 +1,5 @@
-use Rattle.paths.specs.Search.{market_given, outcome_given, Takers, Givers}
+use Rattle.paths.specs.Search.{Looked}
 use Rattle.paths.proofs.takers.look_at_buys.Given as goal
 
 abbrev pub invariant-loop-k : goal.invariant-loop-k
-invariant-loop-k l =
-    Takers (market_given l.t) (outcome_given l.o) l.k l.worth l.out
-    × Givers (market_given l.t) (outcome_given l.o) l.k l.ask l.giver
+invariant-loop-k l = Looked l.t l.o l.k l.ways

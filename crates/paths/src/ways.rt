@@ -1,0 +1,57 @@
+// What a search finds for a zone.
+ghost use Rattle.std.specs.Prelude.{◌≡◌, ◌^◌, ◌<◌};
+ghost use Rattle.paths.specs.Ways.{way_at, way_pays, way_nearer, way_better};
+
+// What the zone's best way to the hub is worth, over how many lines, by which item it leaves the zone, what the zone's cheapest
+// giver asks, and which bid that is. But for the lines, each is 0 for none and else one more than the number.
+#[derive(Clone, Copy)]
+pub struct Way {
+    pub worth: u64,
+    pub far: u64,
+    pub out: u64,
+    pub ask: u64,
+    pub giver: u64,
+}
+
+impl Way {
+    // No way leads from the zone, and nobody there gives.
+    pub const NONE: Way = Way {
+        worth: 0,
+        far: 0,
+        out: 0,
+        ask: 0,
+        giver: 0,
+    };
+
+    // Whether somebody in the zone gives for less than its way is worth.
+    pub fn pays(&self) -> bool
+        ensures { result ≡ way_pays self.now }
+    {
+        self.ask > 0 && self.ask < self.worth
+    }
+
+    // Whether it is worth as much as another, over one line less.
+    pub fn is_nearer(&self, than: &Way) -> bool
+        ensures { result ≡ way_nearer than.now self.now }
+    {
+        self.worth == than.worth && than.far > 0 && self.far == than.far - 1
+    }
+
+    // Whether it is better than another, though over one line more: worth more, or as much over fewer lines.
+    pub fn is_better(&self, than: &Way) -> bool
+        requires { self.now.far < 2 ^ 32 }
+        ensures { result ≡ way_better than.now self.now }
+    {
+        if self.worth < than.worth || self.worth == 0 {
+            return false;
+        }
+        self.worth > than.worth || self.far + 1 < than.far
+    }
+}
+
+// The way of a zone; past the last zone there is none.
+pub fn way_at(ways: &[Way], v: usize) -> Way
+    ensures { result ≡ way_at ways.now v }
+{
+    if v < ways.len() { ways[v] } else { Way::NONE }
+}
