@@ -1,27 +1,11 @@
 -- Ways on tables, walked step by step. Assumes nothing.
-use Rattle.std.proofs.Common.{◌≡◌, ℕ, zero, suc, ◌-◌, min, List, ◌∷◌, sym, refl, ap, ◌∙◌, subst, ap₂, arith}
+use Rattle.std.proofs.Common.{◌≡◌, ℕ, zero, suc, ◌-◌, min, ◌∷◌, sym, refl, ap, ◌∙◌, subst, ap₂, arith}
 use Rattle.hour.specs.Market.{Market, Outcome, at}
-use Rattle.network.proofs.Rows.{length_bids_in}
-use Rattle.network.specs.Network.{nth}
-use Rattle.network.specs.Tables.{items}
 use Rattle.network.specs.Ways.{room, finish}
-use Rattle.network.specs.declared.arcs.Item.{Item}
 use Rattle.network.specs.declared.arcs.Step.{Step}
-use Rattle.network.specs.declared.tables.Tables.{Tables}
 use Rattle.paths.specs.Bids.{item_no, giving}
 use Rattle.paths.specs.Plan.{Plan, out_step, way_out, closed_way}
-use Rattle.paths.specs.Search.{market_given}
 use Rattle.circulation.specs.Sweep.{bottleneck}
-
--- the item that a table numbers
-pub item_numbered :
-    (t : Tables) (numbers : List ℕ) (v x y : ℕ) (i : Item) → x ≡ at numbers v → y ≡ x - 1 →
-    i ≡ nth (items t.buys.now) (items t.sells.now) y → i ≡ item_no (market_given t) (at numbers v - 1)
-item_numbered t numbers v x y i is less nth_is =
-    nth_is
-    ∙ (ap (nth (items t.buys.now) (items t.sells.now)) (less ∙ ap (λ (k : ℕ). k - 1) is)
-    ∙ ap₂ (λ (b s : ℕ). nth b s (at numbers v - 1))
-    (sym (length_bids_in t.buys.now)) (sym (length_bids_in t.sells.now)))
 
 module _ (m : Market) (o : Outcome) (t : Plan) where
   bottleneck_more :

@@ -1,21 +1,21 @@
 -- A push in place, step by step along a closed way. Assumes nothing.
-use Rattle.std.proofs.Common.{◌≡◌, ℕ, zero, suc, ◌+◌, ◌-◌, ◌^◌, ◌<◌, ◌≤◌, List, refl, ap, ◌∙◌, subst, arith}
+use Rattle.std.proofs.Common.{◌≡◌, ℕ, zero, suc, ◌-◌, List, refl, ap, ◌∙◌, subst, arith}
 use mathlib.Core.Path.{subst⁻¹}
 use Rattle.std.specs.List.{AllByRecursion}
 use Rattle.hour.specs.Market.{Market, Outcome, at}
 use Rattle.network.proofs.Rows.{length_bids_in, length_lines_in}
 use Rattle.network.proofs.Ways.{fits_rest}
-use Rattle.network.specs.Network.{Among, carried}
+use Rattle.network.specs.Network.{Among}
 use Rattle.network.specs.Tables.{outcome_in}
 use Rattle.network.specs.Ways.{Fits, Once, moved, pushed, finish}
 use Rattle.network.specs.declared.arcs.Item.{Item}
 use Rattle.network.specs.declared.arcs.Item.TheVariants.{Buy, Sell, Line}
 use Rattle.network.specs.declared.arcs.Step.{Step}
-use Rattle.network.specs.declared.arcs.Step.TheVariants.{Forward, Backward}
+use Rattle.network.specs.declared.arcs.Step.TheVariants.{Forward}
 use Rattle.network.specs.declared.tables.Tables.{Tables}
 use Rattle.paths.specs.Bids.{item_no, giving}
 use Rattle.paths.specs.Plan.{Plan, out_step, way_out, closed_way}
-use Rattle.paths.specs.Search.{market_given, Bounded, Spaced}
+use Rattle.paths.specs.Search.{market_given, Spaced}
 use Rattle.circulation.specs.Given.{Placed}
 
 pub placed :
@@ -25,32 +25,13 @@ placed t bought sold flow spaced (Buy k) among = omega (arith, spaced.buys, leng
 placed t bought sold flow spaced (Sell k) among = omega (arith, spaced.sells, length_bids_in t.sells.now)
 placed t bought sold flow spaced (Line l) among = omega (arith, spaced.lines, length_lines_in t.lines.now)
 
-pub more_fits :
-    (t : Tables) (o : Outcome) (d : ℕ) (i : Item) → Bounded t → 0 < d → Fits (market_given t) o d (Forward i) →
-    carried o i + d < 2 ^ 64
-more_fits t o d i tables some fits = omega (arith, some, fits.fits, tables.capacities i fits.among)
-
--- what carrying more, or less, along a step asks for
-module _
-    (t : Tables) (bought sold flow : List ℕ) (d : ℕ) (s : Step) (i : Item) (spaced : Spaced t bought sold flow)
-    (fits : Fits (market_given t) (outcome_in bought sold flow) d s)
-  where
-    pub forward_carries :
-        Bounded t → 0 < d → s ≡ Forward i →
-        record { placed : Placed bought sold flow i; fits : carried (outcome_in bought sold flow) i + d < 2 ^ 64 }
-    forward_carries tables some is =
-        let here = subst (Fits (market_given t) (outcome_in bought sold flow) d) is fits in
-        record {
-          placed = placed t bought sold flow spaced i here.among;
-          fits = more_fits t (outcome_in bought sold flow) d i tables some here;
-        }
-
-    pub backward_carries :
-        s ≡ Backward i →
-        record { placed : Placed bought sold flow i; fits : d ≤ carried (outcome_in bought sold flow) i }
-    backward_carries is =
-        let here = subst (Fits (market_given t) (outcome_in bought sold flow) d) is fits in
-        record { placed = placed t bought sold flow spaced i here.among; fits = here.fits }
+-- an item that a push carries more of has its place
+pub forward_placed :
+    (t : Tables) (bought sold flow : List ℕ) (d : ℕ) (s : Step) (i : Item) → Spaced t bought sold flow →
+    Fits (market_given t) (outcome_in bought sold flow) d s → s ≡ Forward i → Placed bought sold flow i
+forward_placed t bought sold flow d s i spaced fits is =
+    let here = subst (Fits (market_given t) (outcome_in bought sold flow) d) is fits in
+    placed t bought sold flow spaced i here.among
 
 -- what is left to push along, and that it fits
 pub record Walks (m : Market) (t : Plan) (o : Outcome) (v d left zone : ℕ) (q : Outcome) : Type 0 where

@@ -1,6 +1,5 @@
--- What lent tables and slices hold. Assumes nothing: these are definitions.
+-- What a push asks of lists of amounts and of a closed way. Assumes nothing: these are definitions.
 --
---   plan_given w      the plan that a search's tables hold
 --   Placed .. i       item i has its place in the lists of amounts
 --   Ready m t v       the closed way through zone v goes along items of the market, and leaves no node twice
 use Rattle.std.specs.Prelude.{ℕ, ◌<◌, List, length}
@@ -11,11 +10,6 @@ use Rattle.network.specs.Ways.{item, Once}
 use Rattle.network.specs.declared.arcs.Item.{Item}
 use Rattle.network.specs.declared.arcs.Item.TheVariants.{Buy, Sell, Line}
 use Rattle.paths.specs.Plan.{Plan, closed_way}
-use Rattle.paths.specs.Search.{plan_in}
-use Rattle.paths.specs.declared.search.Ways.{Ways}
-
-abbrev pub plan_given : Ways → Plan
-plan_given w = plan_in w.worth.now w.far.now w.out.now w.ask.now w.giver.now
 
 pub record Ready (m : Market) (t : Plan) (v : ℕ) : Type 0 where
   pub among : AllByRecursion (λ s. Among m (item s)) (closed_way m t v)

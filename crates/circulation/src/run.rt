@@ -4,36 +4,33 @@ ghost use Rattle.hour.specs.Market.{Feasible};
 ghost use Rattle.network.specs.Prices.{LowestOf, Lowest};
 ghost use Rattle.network.specs.Tables.{outcome_in};
 ghost use Rattle.paths.specs.Promises.{prices_of};
-ghost use Rattle.paths.specs.Search.{market_given, plan_in, Bounded, Spaced, Long};
+ghost use Rattle.paths.specs.Search.{market_given, Bounded, Spaced};
+ghost use Rattle.paths.specs.Ways.{plan_of};
 ghost use Rattle.circulation.specs.Promises.{StepsSound, top};
 ghost use Rattle.circulation.specs.Run.{Run};
 
 use crate::sweep::sweep;
 use network::{Amounts, Tables};
-use paths::{Ways, find_ways};
+use paths::{Way, find_ways};
 
 // Clears a market, beginning with amounts and flows that can be carried out: searches and sweeps until no zone pays. Answers
-// how many pushes there were; the five tables are those of the last search.
+// how many pushes there were; the ways are those of the last search.
 pub fn circulate(
     t: Tables,
     bought: &mut [u64],
     sold: &mut [u64],
     flow: &mut [u64],
-    worth: &mut [u64],
-    far: &mut [u64],
-    out: &mut [u64],
-    ask: &mut [u64],
-    giver: &mut [u64],
+    ways: &mut [Way],
 ) -> u64
     requires tables { Bounded t }
     requires spaced { Spaced t bought.old sold.old flow.old }
-    requires zones { (Long t.zones worth.old out.old ask.old giver.old) × (length far.old ≡ t.zones) }
+    requires zones { length ways.old ≡ t.zones }
     requires few { top (market_given t) < 2 ^ 64 }
     requires feasible { Feasible (market_given t) (outcome_in bought.old sold.old flow.old) }
-    ensures run { Run (market_given t.entry) (outcome_in bought.old sold.old flow.old) result (outcome_in bought.new sold.new flow.new) (plan_in worth.new far.new out.new ask.new giver.new) }
+    ensures run { Run (market_given t.entry) (outcome_in bought.old sold.old flow.old) result (outcome_in bought.new sold.new flow.new) (plan_of ways.new) }
     ensures pushes { StepsSound (market_given t.entry) (outcome_in bought.old sold.old flow.old) (outcome_in bought.new sold.new flow.new) result }
-    ensures settled { LowestOf (market_given t.entry) (outcome_in bought.new sold.new flow.new) (prices_of (plan_in worth.new far.new out.new ask.new giver.new)) }
-    ensures lowest { Lowest (market_given t.entry) (prices_of (plan_in worth.new far.new out.new ask.new giver.new)) }
+    ensures settled { LowestOf (market_given t.entry) (outcome_in bought.new sold.new flow.new) (prices_of (plan_of ways.new)) }
+    ensures lowest { Lowest (market_given t.entry) (prices_of (plan_of ways.new)) }
 {
     let mut pushes = 0;
     while find_ways(
@@ -43,22 +40,11 @@ pub fn circulate(
             sold: &*sold,
             flow: &*flow,
         },
-        worth,
-        far,
-        out,
-        ask,
-        giver,
+        ways,
     )
     .is_some()
     {
-        let w = Ways {
-            worth: &*worth,
-            far: &*far,
-            out: &*out,
-            ask: &*ask,
-            giver: &*giver,
-        };
-        pushes += sweep(t, w, bought, sold, flow);
+        pushes += sweep(t, &*ways, bought, sold, flow);
     }
     pushes
 }

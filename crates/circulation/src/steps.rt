@@ -1,4 +1,4 @@
-// Steps along items, on tables: which step the search's tables name, where it ends, and how much room it has.
+// Steps along items, on tables: which step a zone's way names, where it ends, and how much room it has.
 ghost use Rattle.std.specs.Prelude.{◌≡◌, ◌-◌};
 ghost use Rattle.hour.specs.Market.{at};
 ghost use Rattle.network.specs.Network.{capacity, carried};
@@ -6,23 +6,25 @@ ghost use Rattle.network.specs.Ways.{room, finish};
 ghost use Rattle.paths.specs.Bids.{item_no, giving};
 ghost use Rattle.paths.specs.Plan.{out_step};
 ghost use Rattle.paths.specs.Search.{market_given, outcome_given};
-ghost use Rattle.circulation.specs.Given.{plan_given};
+ghost use Rattle.paths.specs.Ways.{plan_of, givers};
 
 use network::{Amounts, Item, Step, Tables, bid_at, item_at, line_at, number_at};
-use paths::Ways;
+use paths::{Way, way_at};
 
-// The item whose number a table has for a zone, where it has one more than the number.
-fn item_of(t: Tables, numbers: &[u64], v: usize) -> Item
-    ensures { result ≡ item_no (market_given t.entry) (at numbers.now v - 1) }
+// The item that a way has as one more than its number.
+#[tactic(auto, using(network::proofs::Rows::length_bids_in))]
+fn item_of(t: Tables, numbered: u64) -> Item
+    ensures { result ≡ item_no (market_given t.entry) (numbered - 1) }
 {
-    item_at(t, number_at(numbers, v).saturating_sub(1) as usize)
+    item_at(t, numbered.saturating_sub(1) as usize)
 }
 
 // The step by which a zone's way leaves it.
-pub fn step_out(t: Tables, w: Ways, v: usize) -> Step
-    ensures { result ≡ out_step (market_given t.entry) (plan_given w.entry) v }
+#[tactic(auto, using(paths::proofs::Zones::out_is))]
+pub fn step_out(t: Tables, ways: &[Way], v: usize) -> Step
+    ensures { result ≡ out_step (market_given t.entry) (plan_of ways.now) v }
 {
-    match item_of(t, w.out, v) {
+    match item_of(t, way_at(ways, v).out) {
         Item::Buy(k) => Step::Forward(Item::Buy(k)),
         Item::Sell(k) => Step::Backward(Item::Sell(k)),
         Item::Line(l) => {
@@ -36,10 +38,10 @@ pub fn step_out(t: Tables, w: Ways, v: usize) -> Step
 }
 
 // The step by which a zone's giver gives.
-pub fn step_in(t: Tables, w: Ways, v: usize) -> Step
-    ensures { result ≡ giving (item_no (market_given t.entry) (at w.entry.giver.now v - 1)) }
+pub fn step_in(t: Tables, ways: &[Way], v: usize) -> Step
+    ensures { result ≡ giving (item_no (market_given t.entry) (at (givers ways.now) v - 1)) }
 {
-    match item_of(t, w.giver, v) {
+    match item_of(t, way_at(ways, v).giver) {
         Item::Buy(k) => Step::Backward(Item::Buy(k)),
         Item::Sell(k) => Step::Forward(Item::Sell(k)),
         Item::Line(l) => Step::Backward(Item::Line(l)),
@@ -56,7 +58,7 @@ fn capacity_of(t: Tables, item: Item) -> u64
     }
 }
 
-fn carried_by(o: Amounts, item: Item) -> u64
+pub fn carried_by(o: Amounts, item: Item) -> u64
     ensures { result ≡ carried (outcome_given o.entry) item }
 {
     match item {

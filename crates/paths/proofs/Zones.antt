@@ -32,6 +32,10 @@ module _ (ws : List Way) (v : ℕ) where
   pub giver_is : at (givers ws) v ≡ (way_at ws v).giver
   giver_is = get_or-map (λ (w : Way). w.giver) ws v no_way
 
+-- how many lines a way takes that was read from the slice
+pub far_read : (ws : List Way) (v : ℕ) (w : Way) → w ≡ way_at ws v → w.far ≡ at (fars ws) v
+far_read ws v w is = ap (λ (x : Way). x.far) is ∙ sym (far_is ws v)
+
 -- where no zone has a way
 pub none_there : (n v : ℕ) → way_at (replicate n no_way) v ≡ no_way
 none_there n v =

@@ -1,29 +1,30 @@
 use Rattle.std.proofs.Common.{◌+◌, ◌-◌, ◌∙◌, arith}
 use Rattle.paths.specs.Search.{market_given, outcome_given}
-use Rattle.circulation.specs.Given.{plan_given}
+use Rattle.paths.specs.Ways.{plan_of}
+use Rattle.paths.proofs.Zones.{far_read}
 use Rattle.circulation.proofs.OnTables.{narrows_start, narrows_more, narrows_end}
 use Rattle.circulation.proofs.sweep.narrowest.Goals as goal
 
 pub loop-k-init : goal.loop-k-init
 loop-k-init c =
-    let lines = c.number_at-lines.result in
-    narrows_start (market_given c.args.t) (outcome_given c.args.o) (plan_given c.args.w) c.args.v
+    let lines = c.way_at-lines.result.far in
+    narrows_start (market_given c.args.t) (outcome_given c.args.o) (plan_of c.args.ways.now) c.args.v
     _ (lines - 0) _
-    c.step_in.ensures c.room_for-least.ensures (omega (arith, c.number_at-lines.ensures))
+    c.step_in.ensures c.room_for-least.ensures (omega (arith, far_read _ c.args.v _ c.way_at-lines.ensures))
 
 pub loop-k-preserved : goal.loop-k-preserved
 loop-k-preserved c =
-    let lines = c.number_at-lines.result in
+    let lines = c.way_at-lines.result.far in
     let k = c.loop-k.k in
-    narrows_more (market_given c.args.t) (outcome_given c.args.o) (plan_given c.args.w) c.args.v
+    narrows_more (market_given c.args.t) (outcome_given c.args.o) (plan_of c.args.ways.now) c.args.v
     c.loop-k.least (lines - k) c.loop-k.zone (lines - (k + 1)) _ _ _ _
     c.loop-k.invariant (omega arith)
     c.step_out-step.ensures c.room_for.ensures c.min-least.ensures c.end_of-zone.ensures
 
 pub returns : goal.returns
 returns c =
-    let lines = c.number_at-lines.result in
+    let lines = c.way_at-lines.result.far in
     c.min.ensures
-    ∙ narrows_end (market_given c.args.t) (outcome_given c.args.o) (plan_given c.args.w) c.args.v
+    ∙ narrows_end (market_given c.args.t) (outcome_given c.args.o) (plan_of c.args.ways.now) c.args.v
     c.loop-k.least (lines - c.loop-k.k) c.loop-k.zone _ _
     c.loop-k.invariant (omega arith) c.step_out.ensures c.room_for-2.ensures
