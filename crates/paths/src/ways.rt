@@ -1,5 +1,5 @@
 // What a search finds for a zone.
-ghost use Rattle.std.specs.Prelude.{◌≡◌, ◌^◌, ◌<◌};
+ghost use Rattle.std.specs.Prelude.{◌≡◌, ◌-◌, ◌^◌, ◌<◌};
 ghost use Rattle.paths.specs.Ways.{way_at, way_pays, way_nearer, way_better};
 
 // What the zone's best way to the hub is worth, over how many lines, by which item it leaves the zone, what the zone's cheapest
@@ -28,6 +28,13 @@ impl Way {
         ensures { result ≡ way_pays self.now }
     {
         self.ask > 0 && self.ask < self.worth
+    }
+
+    // What the zone's price is as its way says it: 0 where none leads to the hub.
+    pub fn price(&self) -> u64
+        ensures { result ≡ self.now.worth - 1 }
+    {
+        self.worth.saturating_sub(1)
     }
 
     // Whether it is worth as much as another, over one line less.

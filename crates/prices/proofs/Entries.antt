@@ -7,7 +7,7 @@ use Rattle.hour.specs.Market.{Market}
 use Rattle.network.specs.Tables.{outcome_in}
 use Rattle.prices.specs.Found.{Fitted, Found, result_in, prices_in}
 
-pub front_long : (n : ℕ) (xs : List ℕ) → n ≤ length xs → length (take (n - 0) xs) ≡ n
+pub front_long : {A : Type 0} (n : ℕ) (xs : List A) → n ≤ length xs → length (take (n - 0) xs) ≡ n
 front_long n xs fits = search (rules, length-take-le)
 
 -- a slice xs whose first n numbers are lent and come back as ys

@@ -3,7 +3,6 @@
 --   Fitted m ..          an amount for each bid, a flow for each line and a price for each zone
 --   Roomy b s l z ..     slices with at least so many numbers
 --   result_in m ..       the outcome of m at the front of three slices; prices_in m the prices at the front of one
---   Labelled m o n p ls  a run of n pushes leads from the outcome o to p, and ls are the labels of its last search
 --   Found m n o ps       the run that begins with nothing takes n pushes and ends with the outcome o and the prices ps
 --   BestOf m o           no outcome that can be carried out is worth more than o
 --   Promised m n o ps    what holds of everything that is found
@@ -38,11 +37,6 @@ result_in m bought sold flow =
 
 abbrev pub prices_in : Market → List ℕ → List ℕ
 prices_in m price = take m.zones price
-
-pub record Labelled (m : Market) (o : Outcome) (n : ℕ) (p : Outcome) (labels : List ℕ) : Type 0 where
-  pub tables : Plan
-  pub run : Run m o n p tables
-  pub worth : labels ≡ tables.worth
 
 pub record Found (m : Market) (n : ℕ) (o : Outcome) (ps : List ℕ) : Type 0 where
   pub tables : Plan

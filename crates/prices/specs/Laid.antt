@@ -2,7 +2,7 @@
 --
 --   bid_numbers b   the numbers of a bid, in the order of a table; line_numbers the same of a line
 --   Laid t k r      the three numbers of item k of the table t are those of r
---   Rowed, Zoned    how long lent tables are; nothing m the outcome with nothing in it
+--   Rowed           how long lent tables are; nothing m the outcome with nothing in it
 use Rattle.std.specs.Prelude.{◌≡◌, ℕ, ◌*◌, List, [], ◌∷◌, length, get_or, replicate}
 use Rattle.hour.specs.Market.{Market, Outcome}
 use Rattle.hour.specs.declared.items.Bid.{Bid}
@@ -30,14 +30,6 @@ pub record Rowed (nb ns nl : ℕ) (buys sells lines bought sold flow : List ℕ)
   pub bought_long : length bought ≡ nb
   pub sold_long : length sold ≡ ns
   pub flow_long : length flow ≡ nl
-
--- tables of a number to each zone
-pub record Zoned (z : ℕ) (worth far out ask giver : List ℕ) : Type 0 where
-  pub worth_long : length worth ≡ z
-  pub far_long : length far ≡ z
-  pub out_long : length out ≡ z
-  pub ask_long : length ask ≡ z
-  pub giver_long : length giver ≡ z
 
 -- nothing is bought, sold or carried
 abbrev pub nothing : Market → Outcome

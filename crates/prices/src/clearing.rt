@@ -1,22 +1,22 @@
 // An hour cleared on tables that the caller lends.
-ghost use Rattle.std.specs.Prelude.{◌≡◌, ◌*◌};
+ghost use Rattle.std.specs.Prelude.{◌≡◌, length};
 ghost use Rattle.hour.specs.Bytes.{market_of};
 ghost use Rattle.network.specs.Prices.{LowestOf, Lowest};
 ghost use Rattle.network.specs.Tables.{outcome_in};
 ghost use Rattle.paths.specs.Promises.{prices_of};
-ghost use Rattle.paths.specs.Search.{plan_in};
+ghost use Rattle.paths.specs.Ways.{plan_of};
 ghost use Rattle.circulation.specs.Promises.{StepsSound};
 ghost use Rattle.circulation.specs.Run.{Run};
-ghost use Rattle.prices.specs.Laid.{Zoned, Rowed, nothing};
+ghost use Rattle.prices.specs.Laid.{Rowed, nothing};
 
 use crate::lay::{lay_buys, lay_lines, lay_sells};
-use crate::tables::wipe;
 use circulation::circulate;
 use hour::Hour;
 use network::Tables;
+use paths::Way;
 
 // Clears an hour, beginning with nothing bought, sold or carried. The tables of the bids and lines are laid first, three numbers to an
-// item; those of the zones are left as the last search leaves them. Answers how many pushes there were.
+// item; the ways are left as the last search leaves them. Answers how many pushes there were.
 pub fn clear_hour(
     hour: Hour<'_>,
     buys: &mut [u64],
@@ -25,30 +25,26 @@ pub fn clear_hour(
     bought: &mut [u64],
     sold: &mut [u64],
     flow: &mut [u64],
-    worth: &mut [u64],
-    far: &mut [u64],
-    out: &mut [u64],
-    ask: &mut [u64],
-    giver: &mut [u64],
+    ways: &mut [Way],
 ) -> u64
     requires rows { Rowed hour.buys hour.sells hour.lines buys.old sells.old lines.old bought.old sold.old flow.old }
-    requires zones { Zoned hour.zones worth.old far.old out.old ask.old giver.old }
-    ensures run { Run (market_of hour.entry.bytes.now) (nothing (market_of hour.entry.bytes.now)) result (outcome_in bought.new sold.new flow.new) (plan_in worth.new far.new out.new ask.new giver.new) }
+    requires zones { length ways.old ≡ hour.zones }
+    ensures run { Run (market_of hour.entry.bytes.now) (nothing (market_of hour.entry.bytes.now)) result (outcome_in bought.new sold.new flow.new) (plan_of ways.new) }
     ensures pushes { StepsSound (market_of hour.entry.bytes.now) (nothing (market_of hour.entry.bytes.now)) (outcome_in bought.new sold.new flow.new) result }
-    ensures settled { LowestOf (market_of hour.entry.bytes.now) (outcome_in bought.new sold.new flow.new) (prices_of (plan_in worth.new far.new out.new ask.new giver.new)) }
-    ensures lowest { Lowest (market_of hour.entry.bytes.now) (prices_of (plan_in worth.new far.new out.new ask.new giver.new)) }
+    ensures settled { LowestOf (market_of hour.entry.bytes.now) (outcome_in bought.new sold.new flow.new) (prices_of (plan_of ways.new)) }
+    ensures lowest { Lowest (market_of hour.entry.bytes.now) (prices_of (plan_of ways.new)) }
 {
     lay_buys(hour, buys);
     lay_sells(hour, sells);
     lay_lines(hour, lines);
-    wipe(bought);
-    wipe(sold);
-    wipe(flow);
+    bought.fill(0);
+    sold.fill(0);
+    flow.fill(0);
     let t = Tables {
         zones: hour.zones(),
         buys: &*buys,
         sells: &*sells,
         lines: &*lines,
     };
-    circulate(t, bought, sold, flow, worth, far, out, ask, giver)
+    circulate(t, bought, sold, flow, ways)
 }

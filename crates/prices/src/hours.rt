@@ -4,11 +4,11 @@ ghost use Rattle.hour.specs.Bytes.{market_of};
 ghost use Rattle.prices.specs.Found.{Roomy, Found, result_in, prices_in};
 
 use crate::lay::{lay_buys, lay_lines, lay_sells};
-use crate::tables::{clear_tables, wipe};
+use crate::tables::clear_slices;
 use hour::Hour;
 use network::Tables;
 
-// The tables of the bids and lines stand in front of the work slice, three numbers to an item; what is behind them is for the run.
+// The tables of the bids and lines stand in front of the work slice, three numbers to an item.
 fn clear_laid(
     hour: Hour<'_>,
     bought: &mut [u64],
@@ -27,7 +27,7 @@ fn clear_laid(
 {
     let (buys, rest) = work.split_at_mut(3 * hour.buys());
     let (sells, rest) = rest.split_at_mut(3 * hour.sells());
-    let (lines, rest) = rest.split_at_mut(3 * hour.lines());
+    let (lines, _) = rest.split_at_mut(3 * hour.lines());
     lay_buys(hour, buys);
     lay_sells(hour, sells);
     lay_lines(hour, lines);
@@ -37,7 +37,7 @@ fn clear_laid(
         sells: &*sells,
         lines: &*lines,
     };
-    clear_tables(t, bought, sold, flow, price, rest)
+    clear_slices(t, bought, sold, flow, price)
 }
 
 // Clears an hour, beginning with nothing bought, sold or carried. Answers how many pushes there were. Slices
@@ -60,6 +60,6 @@ pub fn clear_lent(
     ensures work { work.new ≡ replicate (length work.old) 0 }
 {
     let pushes = clear_laid(hour, bought, sold, flow, price, work);
-    wipe(work);
+    work.fill(0);
     pushes
 }

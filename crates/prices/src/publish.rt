@@ -4,12 +4,19 @@ ghost use Rattle.std.specs.Prelude.{◌≡◌, IfOk, vec_len};
 use crate::clearing::clear_hour;
 use hour::{Hour, Price, refusal};
 use network::{Amounts, Tables, worth_of};
+use paths::Way;
 use std::alloc::{AllocError, Global};
 
 fn zeros(heap: Global, n: usize) -> Result<Vec<u64>, AllocError>
     ensures { IfOk result (λ v. vec_len v ≡ n) }
 {
     vec![in heap; 0u64; n]
+}
+
+fn no_ways(heap: Global, n: usize) -> Result<Vec<Way>, AllocError>
+    ensures { IfOk result (λ v. vec_len v ≡ n) }
+{
+    vec![in heap; Way::NONE; n]
 }
 
 // The worth of an outcome that was cleared; it is worth at least as much as nothing, so what is spent is not above what is gained.
@@ -21,9 +28,9 @@ fn worth_row(text: &mut String, t: Tables, o: Amounts, pushes: u64) -> Result<()
     writeln!(text, "worth {worth} pushes {pushes}")
 }
 
-fn zone_rows(text: &mut String, labels: &[u64]) -> Result<(), AllocError> {
-    for (v, label) in labels.iter().enumerate() {
-        let price = Price(label.saturating_sub(1));
+fn zone_rows(text: &mut String, ways: &[Way]) -> Result<(), AllocError> {
+    for (v, way) in ways.iter().enumerate() {
+        let price = Price(way.price());
         writeln!(text, "zone {v} price {price}")?;
     }
     Ok(())
@@ -41,26 +48,21 @@ fn amount_rows(
     Ok(())
 }
 
-fn outcome_rows(text: &mut String, labels: &[u64], o: Amounts) -> Result<(), AllocError> {
-    zone_rows(text, labels)?;
+fn outcome_rows(text: &mut String, ways: &[Way], o: Amounts) -> Result<(), AllocError> {
+    zone_rows(text, ways)?;
     amount_rows(text, "buy", "has", o.bought)?;
     amount_rows(text, "sell", "has", o.sold)?;
     amount_rows(text, "line", "carries", o.flow)
 }
 
 fn cleared_text(heap: Global, hour: Hour<'_>) -> Result<String, AllocError> {
-    let zones = hour.zones() as usize;
     let mut buys = zeros(heap, 3 * hour.buys())?;
     let mut sells = zeros(heap, 3 * hour.sells())?;
     let mut lines = zeros(heap, 3 * hour.lines())?;
     let mut bought = zeros(heap, hour.buys())?;
     let mut sold = zeros(heap, hour.sells())?;
     let mut flow = zeros(heap, hour.lines())?;
-    let mut worth = zeros(heap, zones)?;
-    let mut far = zeros(heap, zones)?;
-    let mut out = zeros(heap, zones)?;
-    let mut ask = zeros(heap, zones)?;
-    let mut giver = zeros(heap, zones)?;
+    let mut ways = no_ways(heap, hour.zones() as usize)?;
     let pushes = clear_hour(
         hour,
         buys.as_mut_slice(),
@@ -69,11 +71,7 @@ fn cleared_text(heap: Global, hour: Hour<'_>) -> Result<String, AllocError> {
         bought.as_mut_slice(),
         sold.as_mut_slice(),
         flow.as_mut_slice(),
-        worth.as_mut_slice(),
-        far.as_mut_slice(),
-        out.as_mut_slice(),
-        ask.as_mut_slice(),
-        giver.as_mut_slice(),
+        ways.as_mut_slice(),
     );
     let t = Tables {
         zones: hour.zones(),
@@ -88,7 +86,7 @@ fn cleared_text(heap: Global, hour: Hour<'_>) -> Result<String, AllocError> {
     };
     let mut text = String::new(heap);
     worth_row(&mut text, t, o, pushes)?;
-    outcome_rows(&mut text, worth.as_slice(), o)?;
+    outcome_rows(&mut text, ways.as_slice(), o)?;
     Ok(text)
 }
 

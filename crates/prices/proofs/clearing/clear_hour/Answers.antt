@@ -1,8 +1,8 @@
-use Rattle.std.proofs.Common.{ℕ, replicate, ap, ◌∙◌, arith}
+use Rattle.std.proofs.Common.{◌∙◌, arith}
 use Rattle.hour.proofs.First.{is_none}
 use Rattle.hour.proofs.Kept.{kept}
 use Rattle.hour.specs.Bytes.{market_of}
-use Rattle.prices.proofs.Bounds.{bounded_laid, market_laid, few_laid, feasible_laid}
+use Rattle.prices.proofs.Bounds.{filled_with, bounded_laid, market_laid, few_laid, feasible_laid}
 use Rattle.prices.proofs.clearing.clear_hour.Goals as goal
 
 pub circulate-requires : goal.circulate-requires
@@ -21,7 +21,7 @@ circulate-requires c =
       few = few_laid _ _ _ _ m c.zones.ensures c.lay_buys.ensures c.lay_sells.ensures c.lay_lines.ensures rules;
       feasible =
           feasible_laid _ _ _ _ m c.zones.ensures c.lay_buys.ensures c.lay_sells.ensures c.lay_lines.ensures _ _ _
-          (c.wipe.ensures ∙ ap (λ (n : ℕ). replicate n 0) (rows.bought_long ∙ hour.buys_count))
-          (c.wipe-2.ensures ∙ ap (λ (n : ℕ). replicate n 0) (rows.sold_long ∙ hour.sells_count))
-          (c.wipe-3.ensures ∙ ap (λ (n : ℕ). replicate n 0) (rows.flow_long ∙ hour.lines_count));
+          (filled_with _ _ _ (c.fill.ensures.after (λ y same. same)) (rows.bought_long ∙ hour.buys_count))
+          (filled_with _ _ _ (c.fill-2.ensures.after (λ y same. same)) (rows.sold_long ∙ hour.sells_count))
+          (filled_with _ _ _ (c.fill-3.ensures.after (λ y same. same)) (rows.flow_long ∙ hour.lines_count));
     }

@@ -7,8 +7,8 @@ use Rattle.prices.proofs.Bounds.{kept_laid, found_laid}
 use Rattle.prices.proofs.Entries.{past_same}
 use Rattle.prices.proofs.hours.clear_laid.Goals as goal
 
-pub clear_tables-requires : goal.clear_tables-requires
-clear_tables-requires c =
+pub clear_slices-requires : goal.clear_slices-requires
+clear_slices-requires c =
     let bytes = c.args.hour.bytes.now in
     record {
       kept =
@@ -29,9 +29,9 @@ returns c =
     record {
       found =
           found_laid _ _ _ _ (market_of c.args.hour.bytes.now) c.zones.ensures c.lay_buys.ensures c.lay_sells.ensures
-          c.lay_lines.ensures _ _ _ _ _ c.clear_tables.ensures.found;
-      bought = past_same (items c.lay_buys.new.table) c.args.hour.buys _ _ (omega arith) c.clear_tables.ensures.bought;
-      sold = past_same (items c.lay_sells.new.table) c.args.hour.sells _ _ (omega arith) c.clear_tables.ensures.sold;
-      flow = past_same (items c.lay_lines.new.table) c.args.hour.lines _ _ (omega arith) c.clear_tables.ensures.flow;
-      price = past_same c.zones.result c.args.hour.zones _ _ (omega arith) c.clear_tables.ensures.price;
+          c.lay_lines.ensures _ _ _ _ _ c.clear_slices.ensures.found;
+      bought = past_same (items c.lay_buys.new.table) c.args.hour.buys _ _ (omega arith) c.clear_slices.ensures.bought;
+      sold = past_same (items c.lay_sells.new.table) c.args.hour.sells _ _ (omega arith) c.clear_slices.ensures.sold;
+      flow = past_same (items c.lay_lines.new.table) c.args.hour.lines _ _ (omega arith) c.clear_slices.ensures.flow;
+      price = past_same c.zones.result c.args.hour.zones _ _ (omega arith) c.clear_slices.ensures.price;
     }

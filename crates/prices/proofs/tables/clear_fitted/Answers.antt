@@ -1,16 +1,33 @@
-use Rattle.std.proofs.Common.{ℕ, replicate, ap, ◌∙◌, arith}
+use Rattle.std.proofs.Common.{arith}
+use Rattle.circulation.proofs.Few.{top_small}
+use Rattle.network.proofs.Rows.{length_bids_in, length_lines_in}
 use Rattle.paths.specs.Search.{market_given}
-use Rattle.prices.proofs.Bounds.{zeros_feasible}
+use Rattle.prices.proofs.Bounds.{bounded_kept, filled_with, zeros_feasible, run_found}
+use Rattle.prices.proofs.Entries.{front_long}
 use Rattle.prices.proofs.tables.clear_fitted.Goals as goal
 
-pub run_within-pushes-requires : goal.run_within-pushes-requires
-run_within-pushes-requires c =
+pub circulate-pushes-requires : goal.circulate-pushes-requires
+circulate-pushes-requires c =
+    let t = c.args.t in
+    let fitted = c.requires.fitted in
+    let bought = filled_with _ _ _ (c.fill.ensures.after (λ y same. same)) fitted.bought_long in
+    let sold = filled_with _ _ _ (c.fill-2.ensures.after (λ y same. same)) fitted.sold_long in
+    let flow = filled_with _ _ _ (c.fill-3.ensures.after (λ y same. same)) fitted.flow_long in
+    let buys = length_bids_in t.buys.now in
+    let sells = length_bids_in t.sells.now in
+    let lines = length_lines_in t.lines.now in
     record {
-      kept = c.requires.kept;
-      fitted = omega arith;
-      feasible =
-          zeros_feasible (market_given c.args.t) _ _ _
-          (c.wipe.ensures ∙ ap (λ (n : ℕ). replicate n 0) c.requires.fitted.bought_long)
-          (c.wipe-2.ensures ∙ ap (λ (n : ℕ). replicate n 0) c.requires.fitted.sold_long)
-          (c.wipe-3.ensures ∙ ap (λ (n : ℕ). replicate n 0) c.requires.fitted.flow_long);
+      tables = bounded_kept t c.requires.kept;
+      spaced = omega (arith, c.fill.ensures.len, c.fill-2.ensures.len, c.fill-3.ensures.len);
+      zones = front_long _ _ (omega (arith, c.requires.kept.zones));
+      few = omega (arith, top_small (market_given t) c.requires.kept);
+      feasible = zeros_feasible (market_given t) _ _ _ bought sold flow;
     }
+
+pub returns : goal.returns
+returns c =
+    let fitted = c.requires.fitted in
+    let bought = filled_with _ _ _ (c.fill.ensures.after (λ y same. same)) fitted.bought_long in
+    let sold = filled_with _ _ _ (c.fill-2.ensures.after (λ y same. same)) fitted.sold_long in
+    let flow = filled_with _ _ _ (c.fill-3.ensures.after (λ y same. same)) fitted.flow_long in
+    run_found (market_given c.args.t) _ _ _ _ _ _ _ bought sold flow c.circulate-pushes.ensures.run c.lay_prices.ensures

@@ -2,7 +2,7 @@ use Rattle.std.proofs.Common.{refl}
 use Rattle.network.proofs.Rows.{length_bids_in, length_lines_in}
 use Rattle.paths.specs.Search.{market_given}
 use Rattle.prices.proofs.Entries.{lent_front, back_kept, fronts_fitted, found_returned}
-use Rattle.prices.proofs.tables.clear_tables.Goals as goal
+use Rattle.prices.proofs.tables.clear_slices.Goals as goal
 
 pub clear_fitted-requires : goal.clear_fitted-requires
 clear_fitted-requires c =
@@ -26,10 +26,9 @@ returns c =
     record {
       found =
           found_returned (market_given t) _ _ _ _ (length_bids_in t.buys.now) (length_bids_in t.sells.now)
-          (length_lines_in t.lines.now) refl _ _ _ _ _ _ _ _ _ bought sold flow price c.clear_fitted.ensures.found;
+          (length_lines_in t.lines.now) refl _ _ _ _ _ _ _ _ _ bought sold flow price c.clear_fitted.ensures;
       bought = back_kept _ _ _ bought;
       sold = back_kept _ _ _ sold;
       flow = back_kept _ _ _ flow;
       price = back_kept _ _ _ price;
-      work = c.clear_fitted.ensures.work;
     }
