@@ -9,16 +9,17 @@ use network::{Amounts, Tables, bid_in};
 
 // A zone's best taker yields to a dearer one, and its best giver to a cheaper one; so the first among equals stays.
 impl Way {
-    fn yields_to_taker(&self, label: u64) -> bool
-        ensures { result ≡ nat_lt self.now.worth label }
+    fn yields_to_taker(&self, price: u64) -> bool
+        ensures { result ≡ nat_lt self.now.worth (price + 1) }
     {
-        self.worth < label
+        self.worth <= price
     }
 
-    fn yields_to_giver(&self, label: u64) -> bool
-        ensures { result ≡ (self.now.ask == 0 || nat_lt label self.now.ask) }
+    fn yields_to_giver(&self, price: u64) -> bool
+        requires { price < 2 ^ 32 }
+        ensures { result ≡ (self.now.ask == 0 || nat_lt (price + 1) self.now.ask) }
     {
-        self.ask == 0 || label < self.ask
+        self.ask == 0 || price + 1 < self.ask
     }
 }
 
@@ -41,8 +42,8 @@ fn look(t: Tables, o: Amounts, number: u64, bid: Bid, takes: bool, gives: bool, 
     ensures { Looked t.entry o.entry (number + 1) ways.new }
 {
     let way = &mut ways[bid.zone as usize];
-    let dearer = way.yields_to_taker(bid.price + 1);
-    let cheaper = way.yields_to_giver(bid.price + 1);
+    let dearer = way.yields_to_taker(bid.price);
+    let cheaper = way.yields_to_giver(bid.price);
     note(&mut way.worth, &mut way.out, takes, dearer, bid, number);
     note(&mut way.ask, &mut way.giver, gives, cheaper, bid, number);
 }
