@@ -1,8 +1,11 @@
 -- Settled, item by item: buys first, then sells, then lines. Assumes nothing.
-use Rattle.std.proofs.Common.{◌≡◌, ℕ, ◌+◌, ◌-◌, ◌<◌, Bool, false, List, length, Decides, refl, subst, inl, inr, arith, le-ltb, lt-ltb}
+use Rattle.std.proofs.Common.{◌≡◌, ℕ, ◌+◌, ◌-◌, ◌<◌, Bool, true, false, List, length, get_or, Decides, refl, ◌∙◌, subst, inl, inr, arith, zero-add, le-ltb, lt-ltb}
 use mathlib.Core.Path.{subst⁻¹}
 use Rattle.std.proofs.lemmas.Bool.{cases_lt}
-use Rattle.std.proofs.lemmas.Bool.Decides.{not_from_Decides}
+use Rattle.std.proofs.lemmas.Bool.{false≢true}
+use Rattle.std.proofs.lemmas.List.FromFn.{get_or-range_with_len, length-range_with_len}
+use Rattle.std.specs.Bool.{MatchBool}
+use Rattle.std.specs.List.{AllWithin, HoldsAt, range_with_len}
 use Rattle.hour.specs.Market.{Market, Outcome, Settled}
 use Rattle.network.specs.Network.{Among, nth, ContentItem}
 use Rattle.network.specs.declared.arcs.Item.{Item}
@@ -53,10 +56,28 @@ settled_by_items m o ps b s l n each =
     P : Item → Type 0
     P i = ContentItem m o ps i
 
--- an item that is not content shows that the prices do not settle
-pub unsettled_by_item :
-    (m : Market) (o : Outcome) (ps : List ℕ) (b s l k : ℕ) (i : Item) (r : Bool) → Counts m b s l → k < b + s + l →
-    i ≡ nth b s k → Decides r (ContentItem m o ps i) → r ≡ false → Settled m o ps → ⊥
-unsettled_by_item m o ps b s l k i r n h is decides off settled =
-    not_from_Decides r decides off
-    (settled_item m o ps settled i (subst⁻¹ (Among m) is (nth_among m b s l k n h)))
+-- a look at each item in turn, that ends at the first that is not content
+module _ (m : Market) (o : Outcome) (ps : List ℕ) (b s l n : ℕ) (counts : Counts m b s l) (all : n ≡ b + s + l) where
+  number : (k : ℕ) → k < n → get_or (range_with_len 0 n) k 0 ≡ k
+  number k below = get_or-range_with_len 0 n k 0 below ∙ zero-add k
+
+  pub settled_by_each :
+      (r : Bool) →
+      MatchBool r (AllWithin (λ k. ContentItem m o ps (nth b s k)) (range_with_len 0 n) 0 (length (range_with_len 0 n)))
+      ((k : ℕ) × (k < length (range_with_len 0 n)) × HoldsAt (λ k. ContentItem m o ps (nth b s k) → ⊥) (range_with_len 0 n) k) →
+      Decides r (Settled m o ps)
+  settled_by_each true each = (
+    λ yes_r.
+        settled_by_items m o ps b s l counts (λ k below.
+        subst (λ j. ContentItem m o ps (nth b s j)) (number k (omega arith))
+        (each k 0 (omega arith) (omega (arith, length-range_with_len 0 n)))),
+    λ settled. refl,
+  )
+  settled_by_each false (k, below, off) = (
+    λ e. absurd (false≢true e),
+    λ settled.
+        let inside : k < n = omega (arith, length-range_with_len 0 n) in
+        absurd
+        (subst (λ j. ContentItem m o ps (nth b s j) → ⊥) (number k inside) (off 0)
+        (settled_item m o ps settled (nth b s k) (nth_among m b s l k counts (omega arith)))),
+  )

@@ -5,9 +5,9 @@ use Rattle.std.proofs.lemmas.List.{get_or_past}
 use Rattle.std.proofs.lemmas.Bool.{cond-true, cond-false}
 use Rattle.hour.specs.Total.{total, tagged}
 use Rattle.hour.specs.declared.items.Bid.{Bid}
-use Rattle.hour.specs.Market.{at, bid, line, worth, in_zone, into, out_of}
+use Rattle.hour.specs.Market.{at, bid, worth, in_zone, into, out_of}
 use Rattle.hour.proofs.Total.{total_listed, total_more, total_part}
-use Rattle.network.specs.Tables.{cell, items, bids_in, lines_in, market_in, zone_total}
+use Rattle.network.specs.Tables.{cell, items, rows_in, nth_row, bids_in, lines_in, market_in, zone_total}
 use Rattle.network.proofs.Items.{Counts}
 
 pub in_zone_in :
@@ -72,23 +72,13 @@ tagged_other t xs c z k v key other =
     let passed = cond-false (eqb (cell t k c) z) (at xs k) 0 (ne_eqb (cell t k c) z (λ e. other (key ∙ e))) in
     omega (arith, tagged_more t xs c z k)
 
--- items read from a table, and past its end
-pub bid_read :
-    (t : List ℕ) (k z p a : ℕ) → k < items t → z ≡ cell t k 0 → p ≡ cell t k 1 → a ≡ cell t k 2 →
-    record { zone = z; price = p; amount = a } ≡ bid (bids_in t) k
-bid_read t k z p a h zone price amount =
-    (λ i. record { zone = zone i; price = price i; amount = amount i })
-    ∙ sym (get_or-map-range_with_len _ 0 (items t) k k _ h (omega arith))
+-- a row read from a table, and past its end
+module _ {A : Type 0} (made : ℕ → ℕ → ℕ → A) (t : List ℕ) (k : ℕ) where
+  pub row_read :
+      (x y z : ℕ) → k < items t → x ≡ cell t k 0 → y ≡ cell t k 1 → z ≡ cell t k 2 → made x y z ≡ nth_row made t k
+  row_read x y z below first second third =
+      (λ i. made (first i) (second i) (third i))
+      ∙ sym (get_or-map-range_with_len _ 0 (items t) k k _ below (omega arith))
 
-pub bid_past : (t : List ℕ) (k : ℕ) → items t ≤ k → record { zone = 0; price = 0; amount = 0 } ≡ bid (bids_in t) k
-bid_past t k h = sym (get_or_past (bids_in t) k _ (omega (arith, length_bids_in t)))
-
-pub line_read :
-    (t : List ℕ) (k a b c : ℕ) → k < items t → a ≡ cell t k 0 → b ≡ cell t k 1 → c ≡ cell t k 2 →
-    record { from = a; to = b; capacity = c } ≡ line (lines_in t) k
-line_read t k a b c h from to capacity =
-    (λ i. record { from = from i; to = to i; capacity = capacity i })
-    ∙ sym (get_or-map-range_with_len _ 0 (items t) k k _ h (omega arith))
-
-pub line_past : (t : List ℕ) (k : ℕ) → items t ≤ k → record { from = 0; to = 0; capacity = 0 } ≡ line (lines_in t) k
-line_past t k h = sym (get_or_past (lines_in t) k _ (omega (arith, length_lines_in t)))
+  pub row_past : items t ≤ k → made 0 0 0 ≡ nth_row made t k
+  row_past past = sym (get_or_past (rows_in made t) k _ (omega (arith, length-map-range_with_len (λ j. made (cell t j 0) (cell t j 1) (cell t j 2)) 0 (items t))))

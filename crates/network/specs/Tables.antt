@@ -2,12 +2,13 @@
 --
 --   cell t k c       number c, from 0, of item k of the table t
 --   items t          how many items the table t has; one or two numbers at its end that make no item do not count
+--   nth_row made t k row k of the table t, made of its three numbers; past the end all three are 0
 --   bids_in t        the bids of a table: zone, price, amount
 --   lines_in t       the lines of a table: from, to, capacity
 --   zone_total       the amounts, together, of those items that have the zone z in column c
 --   market_in        the market of so many zones with these tables of buys, sells and lines
 --   outcome_in       the outcome with these lists of amounts and flows
-use Rattle.std.specs.Prelude.{ℕ, ◌+◌, ◌*◌, ◌/◌, List, length}
+use Rattle.std.specs.Prelude.{ℕ, ◌+◌, ◌*◌, ◌/◌, List, length, slice_index_or}
 use Rattle.hour.specs.Listed.{listed}
 use Rattle.hour.specs.Total.{tagged}
 use Rattle.hour.specs.declared.items.Bid.{Bid}
@@ -19,6 +20,12 @@ cell t k c = at t (3 * k + c)
 
 abbrev pub items : List ℕ → ℕ
 items t = length t / 3
+
+abbrev pub rows_in : {A : Type 0} → (ℕ → ℕ → ℕ → A) → List ℕ → List A
+rows_in made t = listed (items t) (λ k. made (cell t k 0) (cell t k 1) (cell t k 2))
+
+abbrev pub nth_row : {A : Type 0} → (ℕ → ℕ → ℕ → A) → List ℕ → ℕ → A
+nth_row made t k = slice_index_or (rows_in made t) k (made 0 0 0)
 
 abbrev pub bids_in : List ℕ → List Bid
 bids_in t = listed (items t) (λ k. record { zone = cell t k 0; price = cell t k 1; amount = cell t k 2 })

@@ -1,25 +1,19 @@
 // A market and an outcome in tables of numbers: what it is worth, and each zone's balance.
 // A table has three numbers for each item: zone, price, amount of a bid; from, to, capacity of a line.
-ghost use Rattle.std.specs.Prelude.{◌≡◌, ◌+◌, ◌-◌, ◌*◌, ◌^◌, ◌<◌, ◌≤◌, MatchOption};
+ghost use Rattle.std.specs.Prelude.{◌≡◌, ℕ, ◌+◌, ◌-◌, ◌*◌, ◌^◌, ◌<◌, ◌≤◌, MatchOption};
 ghost use Rattle.std.specs.Option.{SomeIff};
-ghost use Rattle.hour.specs.Market.{at, bid, line, in_zone, into, out_of, worth};
+ghost use Rattle.hour.specs.Market.{at, in_zone, into, out_of, worth};
 ghost use Rattle.network.specs.Network.{nth};
-ghost use Rattle.network.specs.Tables.{cell, items, bids_in, lines_in, zone_total};
+ghost use Rattle.network.specs.Tables.{cell, items, nth_row, bids_in, lines_in, zone_total};
 
 use crate::arcs::Item;
 use hour::{Bid, Line};
 
 const ZONE: usize = 0;
 
-const PRICE: usize = 1;
-
-const AMOUNT: usize = 2;
-
 const FROM: usize = 0;
 
 const TO: usize = 1;
-
-const CAPACITY: usize = 2;
 
 #[derive(Clone, Copy)]
 pub struct Tables<'a> {
@@ -40,7 +34,7 @@ pub struct Amounts<'a> {
 pub fn number_at(xs: &[u64], k: usize) -> u64
     ensures { result ≡ at xs.now k }
 {
-    if k < xs.len() { xs[k] } else { 0 }
+    xs.get(k).copied().unwrap_or(0)
 }
 
 fn cell(table: &[u64], item: usize, column: usize) -> u64
@@ -50,57 +44,50 @@ fn cell(table: &[u64], item: usize, column: usize) -> u64
     table[3 * item + column]
 }
 
-// The k-th bid of a table.
-pub fn bid_in(table: &[u64], k: usize) -> Bid
-    requires { k < items table.now }
-    ensures { result ≡ bid (bids_in table.now) k }
-{
-    Bid {
-        zone: cell(table, k, ZONE),
-        price: cell(table, k, PRICE),
-        amount: cell(table, k, AMOUNT),
-    }
+// What a row of a table says, made of its three numbers.
+pub trait Row: Sized {
+    ghost made: { ℕ → ℕ → ℕ → Self };
+
+    fn of(first: u64, second: u64, third: u64) -> Self
+        ensures { result ≡ made first second third };
 }
 
-// Past the end of the table all numbers of a bid are 0.
-pub fn bid_at(table: &[u64], k: usize) -> Bid
-    ensures { result ≡ bid (bids_in table.now) k }
-{
-    if k < table.len() / 3 {
-        bid_in(table, k)
-    } else {
+impl Row for Bid {
+    ghost made = { λ zone price amount. record { zone = zone; price = price; amount = amount } };
+
+    fn of(zone: u64, price: u64, amount: u64) -> Bid {
         Bid {
-            zone: 0,
-            price: 0,
-            amount: 0,
+            zone,
+            price,
+            amount,
         }
     }
 }
 
-// The k-th line of a table.
-pub fn line_in(table: &[u64], k: usize) -> Line
-    requires { k < items table.now }
-    ensures { result ≡ line (lines_in table.now) k }
-{
-    Line {
-        from: cell(table, k, FROM),
-        to: cell(table, k, TO),
-        capacity: cell(table, k, CAPACITY),
+impl Row for Line {
+    ghost made = { λ from to capacity. record { from = from; to = to; capacity = capacity } };
+
+    fn of(from: u64, to: u64, capacity: u64) -> Line {
+        Line { from, to, capacity }
     }
 }
 
-// Past the end of the table all numbers of a line are 0.
-pub fn line_at(table: &[u64], k: usize) -> Line
-    ensures { result ≡ line (lines_in table.now) k }
+// The k-th row of a table.
+pub fn row_in<R: Row>(table: &[u64], k: usize) -> R
+    requires { k < items table.now }
+    ensures { result ≡ nth_row R.made table.now k }
+{
+    R::of(cell(table, k, 0), cell(table, k, 1), cell(table, k, 2))
+}
+
+// Past the end of the table all three numbers are 0.
+pub fn row_at<R: Row>(table: &[u64], k: usize) -> R
+    ensures { result ≡ nth_row R.made table.now k }
 {
     if k < table.len() / 3 {
-        line_in(table, k)
+        row_in(table, k)
     } else {
-        Line {
-            from: 0,
-            to: 0,
-            capacity: 0,
-        }
+        R::of(0, 0, 0)
     }
 }
 
@@ -134,11 +121,8 @@ pub fn bids_worth(bids: &[u64], amounts: &[u64]) -> Option<u128>
 {
     let mut sum: u128 = 0;
     for k in 0..bids.len() / 3 {
-        let value = bid_at(bids, k).price as u128 * number_at(amounts, k) as u128;
-        let Some(more) = sum.checked_add(value) else {
-            return None;
-        };
-        sum = more;
+        let bid: Bid = row_in(bids, k);
+        sum = sum.checked_add(bid.price as u128 * number_at(amounts, k) as u128)?;
     }
     Some(sum)
 }
@@ -160,13 +144,10 @@ pub fn worth_of(t: Tables, o: Amounts) -> Option<Worth>
         (w.gained ≡ worth (bids_in t.entry.buys.now) o.entry.bought.now)
         × (w.spent ≡ worth (bids_in t.entry.sells.now) o.entry.sold.now)) }
 {
-    let Some(gained) = bids_worth(t.buys, o.bought) else {
-        return None;
-    };
-    let Some(spent) = bids_worth(t.sells, o.sold) else {
-        return None;
-    };
-    Some(Worth { gained, spent })
+    Some(Worth {
+        gained: bids_worth(t.buys, o.bought)?,
+        spent: bids_worth(t.sells, o.sold)?,
+    })
 }
 
 // The amounts, together, of those items that have the zone in a column.

@@ -5,13 +5,10 @@ use std::process::Abort;
 use std::test::Fail;
 
 fn balanced(t: Tables, o: Amounts) -> bool {
-    for zone in 0..t.zones {
+    (0..t.zones).all(|zone| {
         let sides = balance_at(t, o, zone);
-        if sides.comes != sides.goes {
-            return false;
-        }
-    }
-    true
+        sides.comes == sides.goes
+    })
 }
 
 fn comes_out(
