@@ -8,7 +8,8 @@ ghost use Rattle.paths.specs.Plan.{out_step};
 ghost use Rattle.paths.specs.Search.{market_given, outcome_given};
 ghost use Rattle.paths.specs.Ways.{plan_of, givers};
 
-use network::{Amounts, Item, Step, Tables, bid_at, item_at, line_at, number_at};
+use hour::{Bid, Line};
+use network::{Amounts, Item, Step, Tables, item_at, number_at, row_at};
 use paths::{Way, way_at};
 
 // The item that a way has as one more than its number.
@@ -28,7 +29,7 @@ pub fn step_out(t: Tables, ways: &[Way], v: usize) -> Step
         Item::Buy(k) => Step::Forward(Item::Buy(k)),
         Item::Sell(k) => Step::Backward(Item::Sell(k)),
         Item::Line(l) => {
-            if line_at(t.lines, l).from == v as u64 {
+            if row_at::<Line>(t.lines, l).from == v as u64 {
                 Step::Forward(Item::Line(l))
             } else {
                 Step::Backward(Item::Line(l))
@@ -52,9 +53,9 @@ fn capacity_of(t: Tables, item: Item) -> u64
     ensures { result ≡ capacity (market_given t.entry) item }
 {
     match item {
-        Item::Buy(k) => bid_at(t.buys, k).amount,
-        Item::Sell(k) => bid_at(t.sells, k).amount,
-        Item::Line(l) => line_at(t.lines, l).capacity,
+        Item::Buy(k) => row_at::<Bid>(t.buys, k).amount,
+        Item::Sell(k) => row_at::<Bid>(t.sells, k).amount,
+        Item::Line(l) => row_at::<Line>(t.lines, l).capacity,
     }
 }
 
@@ -84,10 +85,10 @@ pub fn end_of(t: Tables, step: Step) -> u64
 {
     match step {
         Step::Forward(Item::Buy(_)) => t.zones,
-        Step::Backward(Item::Buy(k)) => bid_at(t.buys, k).zone,
-        Step::Forward(Item::Sell(k)) => bid_at(t.sells, k).zone,
+        Step::Backward(Item::Buy(k)) => row_at::<Bid>(t.buys, k).zone,
+        Step::Forward(Item::Sell(k)) => row_at::<Bid>(t.sells, k).zone,
         Step::Backward(Item::Sell(_)) => t.zones,
-        Step::Forward(Item::Line(l)) => line_at(t.lines, l).to,
-        Step::Backward(Item::Line(l)) => line_at(t.lines, l).from,
+        Step::Forward(Item::Line(l)) => row_at::<Line>(t.lines, l).to,
+        Step::Backward(Item::Line(l)) => row_at::<Line>(t.lines, l).from,
     }
 }

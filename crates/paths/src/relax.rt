@@ -6,7 +6,8 @@ ghost use Rattle.paths.specs.Search.{market_given, outcome_given, Sound, Relaxed
 ghost use Rattle.paths.specs.Ways.{way_at, way_better, over_line, worths, fars};
 
 use crate::ways::Way;
-use network::{Amounts, Tables, line_in};
+use hour::Line;
+use network::{Amounts, Tables, row_in};
 
 // The way over a line from v to w is taken where it is better than the one that v has. Answers how many labels rose.
 fn raise(ways: &mut [Way], v: usize, w: usize) -> u64
@@ -34,7 +35,7 @@ fn relax(t: Tables, o: Amounts, l: usize, ways: &mut [Way]) -> u64
     ensures relaxed { result ≡ 0 → Relaxed (market_given t.entry) (outcome_given o.entry) (worths ways.old) (fars ways.old) l }
     ensures few { result ≤ 2 }
 {
-    let line = line_in(t.lines, l);
+    let line: Line = row_in(t.lines, l);
     let from = line.from as usize;
     let to = line.to as usize;
     let flow = o.flow[l];

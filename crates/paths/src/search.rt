@@ -13,7 +13,8 @@ ghost use Rattle.paths.specs.Ways.{way_pays, worths, fars, outs, plan_of};
 use crate::relax::settle;
 use crate::takers::{look_at_buys, look_at_sells};
 use crate::ways::Way;
-use network::{Amounts, Tables, line_in};
+use hour::Line;
+use network::{Amounts, Tables, row_in};
 
 // Whether line l leads from zone v, through what is left free, to a zone with a way worth as much, over one line less.
 fn leads_onward(t: Tables, o: Amounts, ways: &[Way], v: usize, l: usize) -> bool
@@ -22,7 +23,7 @@ fn leads_onward(t: Tables, o: Amounts, ways: &[Way], v: usize, l: usize) -> bool
     requires zones { length ways.now ≡ t.zones }
     ensures { result ≡ onward (market_given t.entry) (outcome_given o.entry) (worths ways.now) (fars ways.now) v l }
 {
-    let line = line_in(t.lines, l);
+    let line: Line = row_in(t.lines, l);
     let flow = o.flow[l];
     let from = line.from as usize;
     let to = line.to as usize;

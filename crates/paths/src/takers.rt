@@ -5,7 +5,7 @@ ghost use Rattle.paths.specs.Search.{Sound, Looks, Looked};
 
 use crate::ways::Way;
 use hour::Bid;
-use network::{Amounts, Tables, bid_in};
+use network::{Amounts, Tables, row_in};
 
 // A zone's best taker yields to a dearer one, and its best giver to a cheaper one; so the first among equals stays.
 impl Way {
@@ -55,7 +55,7 @@ pub fn look_at_buys(t: Tables, o: Amounts, ways: &mut [Way])
     ensures { Looked t.entry o.entry (items t.entry.buys.now) ways.new }
 {
     for k in 0..t.buys.len() / 3 {
-        let bid = bid_in(t.buys, k);
+        let bid: Bid = row_in(t.buys, k);
         let has = o.bought[k];
         look(t, o, k as u64, bid, has < bid.amount, 0 < has, ways);
     }
@@ -69,7 +69,7 @@ pub fn look_at_sells(t: Tables, o: Amounts, ways: &mut [Way])
 {
     let buys = t.buys.len() / 3;
     for k in 0..t.sells.len() / 3 {
-        let bid = bid_in(t.sells, k);
+        let bid: Bid = row_in(t.sells, k);
         let has = o.sold[k];
         look(
             t,

@@ -9,7 +9,7 @@ ghost use Rattle.prices.specs.Ended.{lengths, slices_fault, tables_fault, Small}
 
 use crate::tables::clear_tables;
 use hour::{Lengths, Refusal, check_bid, check_counts, check_lent, check_line, check_results};
-use network::{Tables, bid_in, line_in};
+use network::{Tables, row_in};
 
 // A table has three numbers for each item.
 fn check_table(table: &[u64]) -> Result<(), Refusal>
@@ -27,7 +27,7 @@ fn check_bids(zones: u64, before: usize, table: &[u64]) -> Result<(), Refusal>
     ensures { result_err result ≡ bids_fault zones before (bids_in table.now) }
 {
     for k in 0..table.len() / 3 {
-        check_bid(zones, 7 + 7 * (before + k), bid_in(table, k))?;
+        check_bid(zones, 7 + 7 * (before + k), row_in(table, k))?;
     }
     Ok(())
 }
@@ -38,7 +38,7 @@ fn check_all_lines(zones: u64, bids: usize, table: &[u64]) -> Result<(), Refusal
     ensures { result_err result ≡ all_lines_fault zones bids (lines_in table.now) }
 {
     for k in 0..table.len() / 3 {
-        check_line(zones, 7 + 7 * bids + 5 * k, line_in(table, k))?;
+        check_line(zones, 7 + 7 * bids + 5 * k, row_in(table, k))?;
     }
     Ok(())
 }

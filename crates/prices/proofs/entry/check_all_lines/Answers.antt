@@ -8,7 +8,7 @@ returns-in_err-check_line c =
     let left : result_err c.from_residual.result ≡ Some c.in_err-check_line.field-0.0 = search rules in
     left
     ∙ sym (lines_found c.args.zones c.args.bids c.loop-k.k c.args.table.now _ _ _ c.loop-k-test.true c.loop-k.invariant
-    c.line_in.ensures c.check_line.ensures (ap result_err c.in_err-check_line.was))
+    c.row_in.ensures c.check_line.ensures (ap result_err c.in_err-check_line.was))
 
 pub returns : goal.returns
 returns c = search (rules, lines_sound)

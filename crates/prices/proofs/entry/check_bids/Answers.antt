@@ -8,7 +8,7 @@ returns-in_err-check_bid c =
     let left : result_err c.from_residual.result ≡ Some c.in_err-check_bid.field-0.0 = search rules in
     left
     ∙ sym (bids_found c.args.zones c.args.before c.loop-k.k c.args.table.now _ _ _ c.loop-k-test.true c.loop-k.invariant
-    c.bid_in.ensures c.check_bid.ensures (ap result_err c.in_err-check_bid.was))
+    c.row_in.ensures c.check_bid.ensures (ap result_err c.in_err-check_bid.was))
 
 pub returns : goal.returns
 returns c = search (rules, bids_sound)
