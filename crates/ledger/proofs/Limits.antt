@@ -16,13 +16,14 @@ use Rattle.network.specs.Network.{Among, carried, capacity}
 use Rattle.network.specs.Prices.{Lowest, PricesTo}
 use Rattle.network.specs.declared.arcs.Item.{Item}
 use Rattle.network.specs.declared.arcs.Item.TheVariants.{Buy, Sell, Line}
-use Rattle.ledger.specs.Money.{market_said, item, count, above, base, money, asked, sumℤ}
+use Rattle.hour.specs.Seen.{market_seen}
+use Rattle.ledger.specs.Money.{item, count, above, base, money, asked, sumℤ}
 use Rattle.ledger.specs.Money.{first_row, row_count, worth_of, Payable}
 use Rattle.ledger.specs.Promises.{SumsSmall, WorthSmall}
 use Rattle.ledger.specs.Written.{widest}
 use Rattle.ledger.proofs.Size.{size_add, size_between, size_owed, number_back, bits_back}
 
-pub rules_of : (h : Hour) → KeepsRules (market_said h)
+pub rules_of : (h : Hour) → KeepsRules (market_seen h)
 rules_of h = kept h.bytes.now (is_none _ h.kept)
 
 pub among_item : (m : Market) (s : Sort) (k : ℕ) → k < count m s → Among m (item s k)

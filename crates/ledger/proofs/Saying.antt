@@ -8,7 +8,8 @@ use Rattle.hour.specs.Text.{rows}
 use Rattle.hour.specs.declared.refusals.Sort.{Sort}
 use Rattle.hour.specs.declared.refusals.Sort.TheVariants as sorts
 use Rattle.network.specs.Network.{carried}
-use Rattle.ledger.specs.Money.{market_said, outcome_given, item, count, money, first_row, worth_by, LedgerOf, Payable}
+use Rattle.hour.specs.Seen.{market_seen}
+use Rattle.ledger.specs.Money.{outcome_given, item, count, money, first_row, worth_by, LedgerOf, Payable}
 use Rattle.ledger.specs.Cleared.{LedgerIn}
 use Rattle.ledger.specs.declared.cleared.Cleared.{Cleared}
 use Rattle.ledger.specs.Promises.{TextSays}
@@ -69,21 +70,21 @@ zone_rows_say n ps zs long is =
 -- the parts of a cleared hour, each with its front of a list of amounts and its rows of the ledger
 module _ (c : Cleared) (l : List ℕ) (kept : LedgerIn c l) where
   pub item_rows_say :
-      (s : Sort) (xs ys : List ℕ) → length xs ≡ count (market_said c.hour) s →
-      ((k : ℕ) → k < count (market_said c.hour) s → at xs k ≡ carried (outcome_given c.amounts) (item s k)) →
-      ((k : ℕ) → k < count (market_said c.hour) s → at ys k ≡ at l (first_row (market_said c.hour) s + k)) →
+      (s : Sort) (xs ys : List ℕ) → length xs ≡ count (market_seen c.hour) s →
+      ((k : ℕ) → k < count (market_seen c.hour) s → at xs k ≡ carried (outcome_given c.amounts) (item s k)) →
+      ((k : ℕ) → k < count (market_seen c.hour) s → at ys k ≡ at l (first_row (market_seen c.hour) s + k)) →
       item_rows (wording s) (length xs) xs ys 0
-      ≡ sort_rows (market_said c.hour) (outcome_given c.amounts) c.prices.now s
+      ≡ sort_rows (market_seen c.hour) (outcome_given c.amounts) c.prices.now s
   item_rows_say s xs ys long amounts rows =
-      rw long (rows_same (count (market_said c.hour) s) _ _
+      rw long (rows_same (count (market_seen c.hour) s) _ _
       (λ k h.
       ap₂ (item_row (wording s) k) (amounts k h)
       (ap (λ (j : ℕ). to_z w64 (at ys j)) (zero-add k) ∙ ap (to_z w64) (rows k h)
-      ∙ money_read (market_said c.hour) (outcome_given c.amounts) c.prices.now l (rules_of c.hour) c.payable kept s k h)))
+      ∙ money_read (market_seen c.hour) (outcome_given c.amounts) c.prices.now l (rules_of c.hour) c.payable kept s k h)))
 
   pub worth_says :
-      (z : ℤ) (n : ℕ) → z ≡ worth_by (market_said c.hour) (outcome_given c.amounts) →
-      worth_row (to_z w64 (of_z w64 z)) n ≡ worth_row (worth_by (market_said c.hour) (outcome_given c.amounts)) n
+      (z : ℤ) (n : ℕ) → z ≡ worth_by (market_seen c.hour) (outcome_given c.amounts) →
+      worth_row (to_z w64 (of_z w64 z)) n ≡ worth_row (worth_by (market_seen c.hour) (outcome_given c.amounts)) n
   worth_says z n is =
-      let small = (worth_small (market_said c.hour) (outcome_given c.amounts) (rules_of c.hour) c.payable.feasible).whole in
+      let small = (worth_small (market_seen c.hour) (outcome_given c.amounts) (rules_of c.hour) c.payable.feasible).whole in
       ap (λ (w : ℤ). worth_row w n) (number_back z (omega (arith, ap nat_abs is)) ∙ is)

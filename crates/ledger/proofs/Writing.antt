@@ -10,18 +10,19 @@ use Rattle.ledger.proofs.Booked.{behind_kept}
 use Rattle.ledger.proofs.Limits.{rules_of, running_small, size_row, sum_bits, widest_fits}
 use Rattle.ledger.proofs.Size.{bits_back, number_back, size_add, sum_back}
 use Rattle.ledger.specs.Cleared.{money_in, LedgerIn}
-use Rattle.ledger.specs.Money.{market_said, outcome_given, item, count, sumℤ, first_row, row_count, sum_row}
+use Rattle.hour.specs.Seen.{market_seen}
+use Rattle.ledger.specs.Money.{outcome_given, item, count, sumℤ, first_row, row_count, sum_row}
 use Rattle.ledger.specs.Written.{widest, Rows}
 use Rattle.ledger.specs.declared.cleared.Cleared.{Cleared}
 
 module _ (c : Cleared) (s : Sort) where
-  pub money_small : (k : ℕ) → k < count (market_said c.hour) s → nat_abs (money_in c (item s k)) ≤ widest s
+  pub money_small : (k : ℕ) → k < count (market_seen c.hour) s → nat_abs (money_in c (item s k)) ≤ widest s
   money_small k below =
-      size_row (market_said c.hour) (outcome_given c.amounts) c.prices.now (rules_of c.hour) c.payable s k below
+      size_row (market_seen c.hour) (outcome_given c.amounts) c.prices.now (rules_of c.hour) c.payable s k below
 
   -- the same passed on by its bits
   pub money_kept :
-      (k : ℕ) (i : Item) (z : ℤ) → k < count (market_said c.hour) s → z ≡ money_in c i → i ≡ item s k →
+      (k : ℕ) (i : Item) (z : ℤ) → k < count (market_seen c.hour) s → z ≡ money_in c i → i ≡ item s k →
       nat_abs (to_z w64 (of_z w64 z)) ≤ widest s
   money_kept k i z below is here =
       let stands = is ∙ ap (money_in c) here in
@@ -30,7 +31,7 @@ module _ (c : Cleared) (s : Sort) where
 
   -- one more row, and a sum with it; a sort has few rows, so the sum stays small
   pub rows_more :
-      (n bits cell : ℕ) (l : List ℕ) (more : ℤ) → Rows c s n l (to_z w64 bits) → more ≡ money_in c (item s n) → nat_abs more ≤ widest s → n < count (market_said c.hour) s → n < length l →
+      (n bits cell : ℕ) (l : List ℕ) (more : ℤ) → Rows c s n l (to_z w64 bits) → more ≡ money_in c (item s n) → nat_abs more ≤ widest s → n < count (market_seen c.hour) s → n < length l →
       cell ≡ of_z w64 (to_z w64 (of_z w64 more)) →
       Rows c s (n + 1) (set l n cell) (to_z w64 (of_z w64 (to_z w64 bits +ℤ to_z w64 (of_z w64 more))))
   rows_more n bits cell l more so_far is row_small below room written =
@@ -50,7 +51,7 @@ module _ (c : Cleared) (s : Sort) where
       }
     where
       small : nat_abs (to_z w64 bits) + nat_abs more < 2 ^ 63
-      small = running_small (market_said c.hour) (rules_of c.hour) s n (nat_abs (to_z w64 bits)) _ below so_far.small row_small
+      small = running_small (market_seen c.hour) (rules_of c.hour) s n (nat_abs (to_z w64 bits)) _ below so_far.small row_small
 
       added : to_z w64 (of_z w64 (to_z w64 bits +ℤ to_z w64 (of_z w64 more))) ≡ to_z w64 bits +ℤ more
       added = sum_back bits (to_z w64 bits) more refl small
@@ -83,13 +84,13 @@ module _
 module _
     (c : Cleared) (b s l t : List ℕ) (paid got earned : ℤ) (p g e : ℕ) (buys : Rows c sorts.Buy (length b) b paid)
     (sells : Rows c sorts.Sell (length s) s got) (lines : Rows c sorts.Line (length l) l earned)
-    (b_long : length b ≡ length (market_said c.hour).buys) (s_long : length s ≡ length (market_said c.hour).sells)
-    (l_long : length l ≡ length (market_said c.hour).lines) (room : 3 ≤ length t)
+    (b_long : length b ≡ length (market_seen c.hour).buys) (s_long : length s ≡ length (market_seen c.hour).sells)
+    (l_long : length l ≡ length (market_seen c.hour).lines) (room : 3 ≤ length t)
     (p_is : p ≡ of_z w64 (to_z w64 (of_z w64 paid))) (g_is : g ≡ of_z w64 (to_z w64 (of_z w64 got)))
     (e_is : e ≡ of_z w64 (to_z w64 (of_z w64 earned)))
   where
     abbrev pub m : Market
-    m = market_said c.hour
+    m = market_seen c.hour
 
     abbrev pub sums : List ℕ
     sums = set (set (set t 0 p) 1 g) 2 e

@@ -6,22 +6,23 @@
 --   text_in c n       the text of it, after n pushes
 use Rattle.std.specs.Prelude.{ℕ, ◌≤◌, List, length, ℤ}
 use Rattle.network.specs.declared.arcs.Item.{Item}
-use Rattle.ledger.specs.Money.{market_said, outcome_given, money, row_count, LedgerOf}
+use Rattle.hour.specs.Seen.{market_seen}
+use Rattle.ledger.specs.Money.{outcome_given, money, row_count, LedgerOf}
 use Rattle.ledger.specs.Text.{result_of}
 use Rattle.ledger.specs.declared.cleared.Cleared.{Cleared}
 
 abbrev pub money_in : Cleared → Item → ℤ
-money_in c i = money (market_said c.hour) (outcome_given c.amounts) c.prices.now i
+money_in c i = money (market_seen c.hour) (outcome_given c.amounts) c.prices.now i
 
 abbrev pub LedgerIn : Cleared → List ℕ → Type 0
-LedgerIn c l = LedgerOf (market_said c.hour) (outcome_given c.amounts) c.prices.now l
+LedgerIn c l = LedgerOf (market_seen c.hour) (outcome_given c.amounts) c.prices.now l
 
 pub record Room (c : Cleared) (l : List ℕ) : Type 0 where
-  pub prices : (market_said c.hour).zones ≤ length c.prices.now
-  pub bought : length (market_said c.hour).buys ≤ length c.amounts.bought.now
-  pub sold : length (market_said c.hour).sells ≤ length c.amounts.sold.now
-  pub flow : length (market_said c.hour).lines ≤ length c.amounts.flow.now
-  pub ledger : row_count (market_said c.hour) ≤ length l
+  pub prices : (market_seen c.hour).zones ≤ length c.prices.now
+  pub bought : length (market_seen c.hour).buys ≤ length c.amounts.bought.now
+  pub sold : length (market_seen c.hour).sells ≤ length c.amounts.sold.now
+  pub flow : length (market_seen c.hour).lines ≤ length c.amounts.flow.now
+  pub ledger : row_count (market_seen c.hour) ≤ length l
 
 abbrev pub text_in : Cleared → ℕ → List ℕ
-text_in c n = result_of (market_said c.hour) (outcome_given c.amounts) c.prices.now n
+text_in c n = result_of (market_seen c.hour) (outcome_given c.amounts) c.prices.now n

@@ -18,24 +18,19 @@
 use Rattle.std.specs.Prelude.{◌≡◌, ℕ, zero, suc, ◌+◌, ◌*◌, ◌<◌, ◌≤◌, List, length, ℤ, pos, ◌+ℤ◌, ◌-ℤ◌, ◌*ℤ◌}
 use Rattle.std.specs.Int.{w64}
 use Rattle.std.proofs.Common.{of_z}
-use Rattle.hour.specs.Bytes.{market_of}
-use Rattle.hour.specs.Market.{Market, Outcome, Feasible, at, bid, line, worth}
+use Rattle.hour.specs.Market.{Market, Outcome, Feasible, at, bid, line, worth, count_of}
 use Rattle.hour.specs.Rules.{max_price}
 use Rattle.hour.specs.Text.{zero_price}
 use Rattle.hour.specs.Total.{total}
 use Rattle.hour.specs.declared.refusals.Sort.{Sort}
 use Rattle.hour.specs.declared.refusals.Sort.TheVariants as sorts
-use Rattle.hour.specs.declared.view.Hour.{Hour}
 use Rattle.network.specs.Network.{carried}
 use Rattle.network.specs.Tables.{outcome_in}
 use Rattle.network.specs.declared.arcs.Item.{Item}
 use Rattle.network.specs.declared.arcs.Item.TheVariants.{Buy, Sell, Line}
 use Rattle.network.specs.declared.tables.Amounts.{Amounts}
 
--- the market of an hour, and the outcome in lists of amounts
-abbrev pub market_said : Hour → Market
-market_said h = market_of h.bytes.now
-
+-- the outcome in lists of amounts
 abbrev pub outcome_given : Amounts → Outcome
 outcome_given o = outcome_in o.bought.now o.sold.now o.flow.now
 
@@ -45,9 +40,7 @@ item sorts.Sell k = Sell k
 item sorts.Line k = Line k
 
 abbrev pub count : Market → Sort → ℕ
-count m sorts.Buy = length m.buys
-count m sorts.Sell = length m.sells
-count m sorts.Line = length m.lines
+count = count_of
 
 abbrev pub above : Market → List ℕ → Item → ℕ
 above m ps (Buy k) = at ps (bid m.buys k).zone

@@ -1,5 +1,6 @@
 // An hour with an outcome that can be carried out, and prices that can be paid.
-ghost use Rattle.ledger.specs.Money.{market_said, outcome_given, Payable};
+ghost use Rattle.hour.specs.Seen.{market_seen};
+ghost use Rattle.ledger.specs.Money.{outcome_given, Payable};
 
 use hour::Hour;
 use network::Amounts;
@@ -9,5 +10,5 @@ pub struct Cleared<'h, 'o, 'p> {
     pub hour: Hour<'h>,
     pub amounts: Amounts<'o>,
     pub prices: &'p [u64],
-    ghost payable: { Payable (market_said hour) (outcome_given amounts) prices.now },
+    ghost payable: { Payable (market_seen hour) (outcome_given amounts) prices.now },
 }

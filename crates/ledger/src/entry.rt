@@ -6,7 +6,8 @@ ghost use Rattle.prices.specs.Ended.{FoundIn, Left, Wiped, lengths};
 ghost use Rattle.prices.specs.Found.{Roomy};
 ghost use Rattle.ledger.specs.Entry.{slices_fault, hour_fault, CarriedOut, SettledBy, LowestPrices, NobodyRegrets};
 ghost use Rattle.ledger.specs.Entry.{BestWorth, Booked, Closed, Counted, ClearedIn, slices};
-ghost use Rattle.ledger.specs.Money.{market_said, row_count};
+ghost use Rattle.hour.specs.Seen.{market_seen};
+ghost use Rattle.ledger.specs.Money.{row_count};
 
 use crate::cleared::Cleared;
 use hour::{Head, Hour, Lengths, Refusal, check_items, check_lent, check_results, read_head};
@@ -58,7 +59,7 @@ fn clear_and_book(
     requires slices { Roomy hour.buys hour.sells hour.lines hour.zones bought.old sold.old flow.old price.old }
     requires ledger { hour.buys + hour.sells + hour.lines + 3 ≤ length ledger.old }
     requires work { 64 * (hour.buys + hour.sells + hour.lines) ≤ length work.old }
-    ensures { ClearedIn (market_said hour.entry) result (slices bought.old sold.old flow.old price.old ledger.old work.old) (slices bought.new sold.new flow.new price.new ledger.new work.new) }
+    ensures { ClearedIn (market_seen hour.entry) result (slices bought.old sold.old flow.old price.old ledger.old work.old) (slices bought.new sold.new flow.new price.new ledger.new work.new) }
 {
     let items = hour.buys() + hour.sells() + hour.lines();
     let pushes = clear_lent(hour, bought, sold, flow, price, &mut work[0..64 * items]);

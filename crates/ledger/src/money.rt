@@ -2,7 +2,8 @@
 ghost use Rattle.std.specs.Prelude.{◌≡◌, ◌≤◌};
 ghost use Rattle.hour.specs.Rules.{max_price, max_amount};
 ghost use Rattle.network.specs.Network.{Among, carried};
-ghost use Rattle.ledger.specs.Money.{market_said, outcome_given, above, base, owed, asked, item};
+ghost use Rattle.hour.specs.Seen.{market_seen};
+ghost use Rattle.ledger.specs.Money.{outcome_given, above, base, owed, asked, item};
 ghost use Rattle.ledger.specs.Cleared.{money_in};
 
 use crate::cleared::Cleared;
@@ -29,8 +30,8 @@ fn owed(above: u64, base: u64, amount: u64) -> i64
 
 // The zone's price for a bid, and for a line the price where it ends.
 pub fn price_above(hour: Hour<'_>, prices: &[u64], item: Item) -> u64
-    requires { Among (market_said hour) item }
-    ensures { result ≡ above (market_said hour.entry) prices.now item }
+    requires { Among (market_seen hour) item }
+    ensures { result ≡ above (market_seen hour.entry) prices.now item }
 {
     match item {
         Item::Buy(k) => number_at(prices, hour.buy(k).zone as usize),
@@ -41,8 +42,8 @@ pub fn price_above(hour: Hour<'_>, prices: &[u64], item: Item) -> u64
 
 // No money for a bid, and for a line the price where it begins.
 pub fn price_below(hour: Hour<'_>, prices: &[u64], item: Item) -> u64
-    requires { Among (market_said hour) item }
-    ensures { result ≡ base (market_said hour.entry) prices.now item }
+    requires { Among (market_seen hour) item }
+    ensures { result ≡ base (market_seen hour.entry) prices.now item }
 {
     match item {
         Item::Buy(_) | Item::Sell(_) => ZERO_PRICE,
@@ -62,8 +63,8 @@ pub fn amount_of(o: Amounts<'_>, item: Item) -> u64
 
 // The price that a bid has itself; a line has none.
 pub fn price_asked(hour: Hour<'_>, item: Item) -> u64
-    requires { Among (market_said hour) item }
-    ensures { result ≡ asked (market_said hour.entry) item }
+    requires { Among (market_seen hour) item }
+    ensures { result ≡ asked (market_seen hour.entry) item }
 {
     match item {
         Item::Buy(k) => hour.buy(k).price,
@@ -74,7 +75,7 @@ pub fn price_asked(hour: Hour<'_>, item: Item) -> u64
 
 impl Cleared<'_, '_, '_> {
     pub fn money_of(self, item: Item) -> i64
-        requires { Among (market_said self.hour) item }
+        requires { Among (market_seen self.hour) item }
         ensures { result ≡ money_in self.entry item }
     {
         owed(

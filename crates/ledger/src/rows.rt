@@ -1,6 +1,7 @@
 // The rows of a ledger: one for each item, sort by sort, and then the three sums.
 ghost use Rattle.std.specs.Prelude.{◌≡◌, ◌+◌, ◌<◌, ◌≤◌, length, drop, unsigned_abs};
-ghost use Rattle.ledger.specs.Money.{market_said, item, count, row_count};
+ghost use Rattle.hour.specs.Seen.{market_seen};
+ghost use Rattle.ledger.specs.Money.{item, count, row_count};
 ghost use Rattle.ledger.specs.Cleared.{money_in, LedgerIn};
 ghost use Rattle.ledger.specs.Written.{widest, Rows};
 
@@ -11,7 +12,7 @@ use hour::Sort;
 impl Cleared<'_, '_, '_> {
     // The money of the k-th item of a sort.
     fn row_money(self, sort: Sort, k: usize) -> i64
-        requires { k < count (market_said self.hour) sort }
+        requires { k < count (market_seen self.hour) sort }
         ensures value { result ≡ money_in self.entry (item sort k) }
         ensures small { unsigned_abs result ≤ widest sort }
     {
@@ -20,7 +21,7 @@ impl Cleared<'_, '_, '_> {
 
     // The rows of one sort, each number as its two's complement; answers their sum.
     fn write_rows(self, sort: Sort, rows: &mut [u64]) -> i64
-        requires { length rows.old ≡ count (market_said self.hour) sort }
+        requires { length rows.old ≡ count (market_seen self.hour) sort }
         ensures { Rows self.entry sort (length rows.new) rows.new result }
     {
         let mut sum: i64 = 0;
@@ -34,9 +35,9 @@ impl Cleared<'_, '_, '_> {
 
     // The money of each buy, sell and line in the order of the hour, and the three sums behind them; what stands behind these stays.
     pub fn write_ledger(self, ledger: &mut [u64])
-        requires { row_count (market_said self.hour) + 3 ≤ length ledger.old }
+        requires { row_count (market_seen self.hour) + 3 ≤ length ledger.old }
         ensures ledger { LedgerIn self.entry ledger.new }
-        ensures behind { drop (row_count (market_said self.entry.hour) + 3) ledger.new ≡ drop (row_count (market_said self.entry.hour) + 3) ledger.old }
+        ensures behind { drop (row_count (market_seen self.entry.hour) + 3) ledger.new ≡ drop (row_count (market_seen self.entry.hour) + 3) ledger.old }
     {
         let (buys, rest) = ledger.split_at_mut(self.hour.buys());
         let (sells, rest) = rest.split_at_mut(self.hour.sells());

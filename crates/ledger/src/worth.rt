@@ -2,27 +2,18 @@
 ghost use Rattle.std.specs.Prelude.{◌≡◌, ◌*◌, ◌<◌, ◌≤◌};
 ghost use Rattle.hour.specs.Market.{Feasible};
 ghost use Rattle.network.specs.Network.{carried};
-ghost use Rattle.ledger.specs.Money.{market_said, outcome_given, item, count, asked, worth_of, worth_by};
+ghost use Rattle.hour.specs.Seen.{market_seen};
+ghost use Rattle.ledger.specs.Money.{outcome_given, item, count, asked, worth_of, worth_by};
 
 use crate::money::{amount_of, item_of, price_asked};
 use hour::{Hour, Sort};
 use network::Amounts;
 
-fn count_of(hour: Hour<'_>, sort: Sort) -> usize
-    ensures { result ≡ count (market_said hour.entry) sort }
-{
-    match sort {
-        Sort::Buy => hour.buys(),
-        Sort::Sell => hour.sells(),
-        Sort::Line => hour.lines(),
-    }
-}
-
 // The k-th item of a sort at its own price.
 fn item_worth(hour: Hour<'_>, o: Amounts<'_>, sort: Sort, k: usize) -> u64
-    requires among { k < count (market_said hour) sort }
-    requires feasible { Feasible (market_said hour) (outcome_given o) }
-    ensures value { result ≡ asked (market_said hour.entry) (item sort k) * carried (outcome_given o.entry) (item sort k) }
+    requires among { k < count (market_seen hour) sort }
+    requires feasible { Feasible (market_seen hour) (outcome_given o) }
+    ensures value { result ≡ asked (market_seen hour.entry) (item sort k) * carried (outcome_given o.entry) (item sort k) }
     ensures small { result ≤ 400000000000 }
 {
     let item = item_of(sort, k);
@@ -31,12 +22,12 @@ fn item_worth(hour: Hour<'_>, o: Amounts<'_>, sort: Sort, k: usize) -> u64
 
 // The items of one sort at their own prices.
 fn worth_of(hour: Hour<'_>, o: Amounts<'_>, sort: Sort) -> u64
-    requires { Feasible (market_said hour) (outcome_given o) }
-    ensures value { result ≡ worth_of (market_said hour.entry) (outcome_given o.entry) sort }
+    requires { Feasible (market_seen hour) (outcome_given o) }
+    ensures value { result ≡ worth_of (market_seen hour.entry) (outcome_given o.entry) sort }
     ensures small { result ≤ 400000000000000 }
 {
     let mut sum = 0;
-    for k in 0..count_of(hour, sort) {
+    for k in 0..hour.count(sort) {
         sum += item_worth(hour, o, sort, k);
     }
     sum
@@ -44,8 +35,8 @@ fn worth_of(hour: Hour<'_>, o: Amounts<'_>, sort: Sort) -> u64
 
 // What is bought is worth, less what is sold.
 pub fn worth_in(hour: Hour<'_>, o: Amounts<'_>) -> i64
-    requires { Feasible (market_said hour) (outcome_given o) }
-    ensures { result ≡ worth_by (market_said hour.entry) (outcome_given o.entry) }
+    requires { Feasible (market_seen hour) (outcome_given o) }
+    ensures { result ≡ worth_by (market_seen hour.entry) (outcome_given o.entry) }
 {
     worth_of(hour, o, Sort::Buy) as i64 - worth_of(hour, o, Sort::Sell) as i64
 }

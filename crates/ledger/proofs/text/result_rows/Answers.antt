@@ -3,7 +3,7 @@ use Rattle.std.proofs.lemmas.List.{get_or-take, length-take-le}
 use Rattle.std.proofs.lemmas.Result.{on_ok_weaker}
 use Rattle.hour.specs.declared.refusals.Sort.TheVariants.{Buy, Sell, Line}
 use Rattle.hour.specs.Market.{at}
-use Rattle.ledger.specs.Money.{market_said}
+use Rattle.hour.specs.Seen.{market_seen}
 use Rattle.ledger.specs.Text.{zone_rows}
 use Rattle.ledger.proofs.Saying.{five_parts, worth_says, zone_rows_say, item_rows_say}
 use Rattle.ledger.proofs.text.result_rows.Goals as goal
@@ -35,6 +35,6 @@ returns c =
     (item_rows_say this l kept Line _ _ (length-take-le lines _ (omega arith) ∙ c.lines-lines.ensures.count)
     (λ k h. get_or-take lines _ k 0 (omega arith))
     (λ k h.
-    let place : buys + (sells + k) ≡ length (market_said this.hour).buys + length (market_said this.hour).sells + k = omega arith in
+    let place : buys + (sells + k) ≡ length (market_seen this.hour).buys + length (market_seen this.hour).sells + k = omega arith in
     get_or-take lines _ k 0 (omega arith) ∙ second.2 k 0 ∙ first.2 (sells + k) 0 ∙ ap (at l) place)))
     c.item_rows-3.ensures

@@ -1,6 +1,7 @@
 -- No item is worth more than the highest price for the largest amount.
 use Rattle.std.proofs.Common.{arith}
-use Rattle.ledger.specs.Money.{market_said, outcome_given}
+use Rattle.hour.specs.Seen.{market_seen}
+use Rattle.ledger.specs.Money.{outcome_given}
 use Rattle.ledger.proofs.Limits.{rules_of, worth_is, worth_fits}
 use Rattle.ledger.proofs.worth.item_worth.Goals as goal
 
@@ -8,14 +9,14 @@ pub overflow_mul-result : goal.overflow_mul-result
 overflow_mul-result c =
     omega (
       arith,
-      worth_fits (market_said c.args.hour) (outcome_given c.args.o) (rules_of c.args.hour) c.requires.feasible
+      worth_fits (market_seen c.args.hour) (outcome_given c.args.o) (rules_of c.args.hour) c.requires.feasible
           c.args.sort c.args.k c.requires.among _ _ _
           c.item_of-item.ensures c.price_asked.ensures c.amount_of.ensures,
     )
 
 pub returns : goal.returns
 returns c =
-    let m = market_said c.args.hour in
+    let m = market_seen c.args.hour in
     let o = outcome_given c.args.o in
     let rules = rules_of c.args.hour in
     let s = c.args.sort in

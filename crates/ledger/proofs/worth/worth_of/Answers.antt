@@ -1,19 +1,20 @@
 -- A sort has at most 1,000 items.
 use Rattle.std.proofs.Common.{◌≡◌, ap, ◌∙◌, arith}
-use Rattle.ledger.specs.Money.{market_said, outcome_given, count}
+use Rattle.hour.specs.Seen.{market_seen}
+use Rattle.ledger.specs.Money.{outcome_given, count}
 use Rattle.ledger.proofs.Limits.{rules_of, worth_to, worth_more, worth_to_small, count_small}
 use Rattle.ledger.proofs.worth.worth_of.Goals as goal
 
 pub overflow_add-sum : goal.overflow_add-sum
 overflow_add-sum c =
-    let m = market_said c.args.hour in
+    let m = market_seen c.args.hour in
     let rules = rules_of c.args.hour in
     let s = c.args.sort in
     omega (
       arith,
       c.loop-k.invariant,
       c.item_worth-sum.ensures.small,
-      worth_to_small m (outcome_given c.args.o) rules c.requires s c.loop-k.k (omega (arith, c.count_of-k-end.ensures)),
+      worth_to_small m (outcome_given c.args.o) rules c.requires s c.loop-k.k (omega (arith, c.count-k-end.ensures)),
       count_small m rules s,
     )
 
@@ -23,16 +24,16 @@ loop-k-preserved c =
       arith,
       c.loop-k.invariant,
       c.item_worth-sum.ensures.value,
-      worth_more (market_said c.args.hour) (outcome_given c.args.o) c.args.sort c.loop-k.k,
+      worth_more (market_seen c.args.hour) (outcome_given c.args.o) c.args.sort c.loop-k.k,
     )
 
 pub returns : goal.returns
 returns c =
-    let m = market_said c.args.hour in
+    let m = market_seen c.args.hour in
     let o = outcome_given c.args.o in
     let rules = rules_of c.args.hour in
     let s = c.args.sort in
-    let all : c.loop-k.k ≡ count m s = omega (arith, c.loop-k-test.false, c.count_of-k-end.ensures) in
+    let all : c.loop-k.k ≡ count m s = omega (arith, c.loop-k-test.false, c.count-k-end.ensures) in
     record {
       value = c.loop-k.invariant ∙ ap (worth_to m o s) all;
       small =

@@ -1,13 +1,14 @@
 -- The rules of the hour limit prices and amounts.
 use Rattle.std.proofs.Common.{arith}
-use Rattle.ledger.specs.Money.{market_said, outcome_given}
+use Rattle.hour.specs.Seen.{market_seen}
+use Rattle.ledger.specs.Money.{outcome_given}
 use Rattle.ledger.proofs.Limits.{rules_of, above_small, base_small, carried_small}
 use Rattle.ledger.proofs.cleared.Cleared.money_of.Goals as goal
 
 pub owed-requires : goal.owed-requires
 owed-requires c =
     let this = c.args.self in
-    let m = market_said this.hour in
+    let m = market_seen this.hour in
     let o = outcome_given this.amounts in
     let rules = rules_of this.hour in
     let pay = this.payable in
