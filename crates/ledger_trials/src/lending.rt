@@ -1,6 +1,6 @@
 // Hours cleared in slices that are just long enough, or one number too short.
 use hour::read_head;
-use lent::{Lent, Sizes};
+use lent::{Lent, Sizes, Slice};
 use std::alloc::{AllocError, Global};
 
 // Whether the hour's ledger closes.
@@ -22,7 +22,7 @@ pub fn closing_word(heap: Global, bytes: &[u8]) -> Result<&'static str, AllocErr
 }
 
 // What is said of an hour where one of the six slices is too short by one number, and whether any number of any slice changed.
-pub fn one_short(heap: Global, bytes: &[u8], slice: usize) -> Result<String, AllocError> {
+pub fn one_short(heap: Global, bytes: &[u8], slice: Slice) -> Result<String, AllocError> {
     let Ok(head) = read_head(bytes) else {
         return format!(in heap; "no hour\n");
     };

@@ -9,6 +9,7 @@ use crate::lending::{closing_word, one_short};
 use crate::sums::largest_hour;
 use hour::{Fault, read_file, status, tell, write_answer};
 use ledger::published;
+use lent::Slice;
 use std::process::ExitCode;
 
 const REFUSED: u64 = 54;
@@ -30,9 +31,6 @@ const ODD: [&str; 9] = [
 // Buys and sells of the largest hours: all are served at the lowest price, or one buy too many holds the highest.
 const LARGEST: [(usize, usize); 2] = [(1_000, 1_000), (1_000, 999)];
 
-// How many slices are lent to clearing.
-const SLICES: usize = 6;
-
 fn refused_hours(rt: &HostRuntime) -> Result<(), Fault> {
     let heap = rt.alloc();
     for n in 0..REFUSED {
@@ -43,29 +41,16 @@ fn refused_hours(rt: &HostRuntime) -> Result<(), Fault> {
     Ok(())
 }
 
-fn worked_hours(rt: &HostRuntime) -> Result<(), Fault> {
+// What sample hours of one kind come to, and whether their sums close.
+fn sample_hours(rt: &HostRuntime, kind: &str, names: &[&str]) -> Result<(), Fault> {
     let heap = rt.alloc();
-    for name in WORKED {
-        let bytes = read_file(rt, format!(in heap; "worked/{name}.bin")?)?;
+    for name in names {
+        let bytes = read_file(rt, format!(in heap; "{kind}/{name}.bin")?)?;
         let result = published(heap, bytes.as_slice())?;
         let closes = closing_word(heap, bytes.as_slice())?;
         write_answer(
             rt,
-            format!(in heap; "worked {name}\n{result}{closes}\n")?.as_str(),
-        )?;
-    }
-    Ok(())
-}
-
-fn odd_hours(rt: &HostRuntime) -> Result<(), Fault> {
-    let heap = rt.alloc();
-    for name in ODD {
-        let bytes = read_file(rt, format!(in heap; "odd/{name}.bin")?)?;
-        let result = published(heap, bytes.as_slice())?;
-        let closes = closing_word(heap, bytes.as_slice())?;
-        write_answer(
-            rt,
-            format!(in heap; "odd {name}\n{result}{closes}\n")?.as_str(),
+            format!(in heap; "{kind} {name}\n{result}{closes}\n")?.as_str(),
         )?;
     }
     Ok(())
@@ -93,17 +78,17 @@ fn largest_hours(rt: &HostRuntime) -> Result<(), Fault> {
 fn short_slices(rt: &HostRuntime) -> Result<(), Fault> {
     let heap = rt.alloc();
     let bytes = read_file(rt, format!(in heap; "worked/E.bin")?)?;
-    for slice in 0..SLICES {
-        let said = one_short(heap, bytes.as_slice(), slice)?;
-        write_answer(rt, format!(in heap; "slice {slice} short {said}")?.as_str())?;
+    for (number, slice) in Slice::ALL.iter().enumerate() {
+        let said = one_short(heap, bytes.as_slice(), *slice)?;
+        write_answer(rt, format!(in heap; "slice {number} short {said}")?.as_str())?;
     }
     Ok(())
 }
 
 fn run(rt: &HostRuntime) -> Result<(), Fault> {
     refused_hours(rt)?;
-    worked_hours(rt)?;
-    odd_hours(rt)?;
+    sample_hours(rt, "worked", &WORKED)?;
+    sample_hours(rt, "odd", &ODD)?;
     largest_hours(rt)?;
     short_slices(rt)
 }

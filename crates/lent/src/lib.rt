@@ -9,25 +9,66 @@ use std::alloc::{AllocError, Global};
 // No amount, price or money of an hour is so large.
 const MARK: u64 = 0xa5a5_a5a5_a5a5_a5a5;
 
-// How long the six slices are, in the order in which they are lent.
+// The six slices, in the order in which they are lent.
 #[derive(Clone, Copy)]
-pub struct Sizes {
-    pub bought: usize,
-    pub sold: usize,
-    pub flow: usize,
-    pub price: usize,
-    pub ledger: usize,
-    pub work: usize,
+pub enum Slice {
+    Bought,
+    Sold,
+    Flow,
+    Price,
+    Ledger,
+    Work,
 }
 
-impl Sizes {
+impl Slice {
+    pub const ALL: [Slice; 6] = [
+        Slice::Bought,
+        Slice::Sold,
+        Slice::Flow,
+        Slice::Price,
+        Slice::Ledger,
+        Slice::Work,
+    ];
+}
+
+// Something of each of the six.
+#[derive(Drop)]
+pub struct Slices<T> {
+    pub bought: T,
+    pub sold: T,
+    pub flow: T,
+    pub price: T,
+    pub ledger: T,
+    pub work: T,
+}
+
+impl<T> Slices<T> {
+    fn get_mut(&mut self, slice: Slice) -> &mut T {
+        match slice {
+            Slice::Bought => &mut self.bought,
+            Slice::Sold => &mut self.sold,
+            Slice::Flow => &mut self.flow,
+            Slice::Price => &mut self.price,
+            Slice::Ledger => &mut self.ledger,
+            Slice::Work => &mut self.work,
+        }
+    }
+}
+
+// How long each is.
+pub type Sizes = Slices<usize>;
+
+// Their numbers.
+pub type Lent = Slices<Vec<u64>>;
+
+impl Slices<usize> {
     // Just long enough for an hour with this head.
     pub fn for_head(head: Head) -> Sizes {
         let items = head
             .buys
             .saturating_add(head.sells)
             .saturating_add(head.lines);
-        Sizes {
+        Slices {
             bought: head.buys as usize,
             sold: head.sells as usize,
             flow: head.lines as usize,
@@ -38,52 +79,22 @@ impl Sizes {
     }
 
     // The same with one of the slices shorter by one number.
-    pub fn one_short(self, slice: usize) -> Sizes {
-        let mut sizes = self;
-        match slice {
-            0 => sizes.bought = sizes.bought.saturating_sub(1),
-            1 => sizes.sold = sizes.sold.saturating_sub(1),
-            2 => sizes.flow = sizes.flow.saturating_sub(1),
-            3 => sizes.price = sizes.price.saturating_sub(1),
-            4 => sizes.ledger = sizes.ledger.saturating_sub(1),
-            _ => sizes.work = sizes.work.saturating_sub(1),
-        }
-        sizes
+    pub fn one_short(mut self, slice: Slice) -> Sizes {
+        let size = self.get_mut(slice);
+        *size = size.saturating_sub(1);
+        self
     }
 }
 
-#[derive(Drop)]
-pub struct Lent {
-    pub bought: Vec<u64>,
-    pub sold: Vec<u64>,
-    pub flow: Vec<u64>,
-    pub price: Vec<u64>,
-    pub ledger: Vec<u64>,
-    pub work: Vec<u64>,
-}
-
-fn marked(heap: Global, size: usize) -> Result<Vec<u64>, AllocError> {
-    vec![in heap; MARK; size]
-}
-
-fn all_marked(numbers: &[u64]) -> bool {
-    for number in numbers {
-        if *number != MARK {
-            return false;
-        }
-    }
-    true
-}
-
-impl Lent {
+impl Slices<Vec<u64>> {
     pub fn new(heap: Global, sizes: Sizes) -> Result<Lent, AllocError> {
-        Ok(Lent {
-            bought: marked(heap, sizes.bought)?,
-            sold: marked(heap, sizes.sold)?,
-            flow: marked(heap, sizes.flow)?,
-            price: marked(heap, sizes.price)?,
-            ledger: marked(heap, sizes.ledger)?,
-            work: marked(heap, sizes.work)?,
+        Ok(Slices {
+            bought: vec![in heap; MARK; sizes.bought]?,
+            sold: vec![in heap; MARK; sizes.sold]?,
+            flow: vec![in heap; MARK; sizes.flow]?,
+            price: vec![in heap; MARK; sizes.price]?,
+            ledger: vec![in heap; MARK; sizes.ledger]?,
+            work: vec![in heap; MARK; sizes.work]?,
         })
     }
 
@@ -112,30 +123,35 @@ impl Lent {
     // Of slices that are just long enough for an hour, cleared: whether the ledger's rows close, so that what the buys pay is what
     // the sells get and the lines earn, and whether the three sums behind the rows are the sums of the rows.
     pub fn closes(&self) -> bool {
-        let sells = self.bought.len();
-        let lines = sells.saturating_add(self.sold.len());
-        let sums = lines.saturating_add(self.flow.len());
-        let paid = sum_of_rows(self.ledger.as_slice(), 0, sells);
-        let got = sum_of_rows(self.ledger.as_slice(), sells, lines);
-        let earned = sum_of_rows(self.ledger.as_slice(), lines, sums);
+        let ledger = self.ledger.as_slice();
+        let buys = self.bought.len();
+        let sells = self.sold.len();
+        let lines = self.flow.len();
+        let before_lines = buys.saturating_add(sells);
+        let sums = before_lines.saturating_add(lines);
+        let paid = sum_of_rows(ledger, 0, buys);
+        let got = sum_of_rows(ledger, buys, sells);
+        let earned = sum_of_rows(ledger, before_lines, lines);
         paid == got.wrapping_add(earned)
-            && row(self.ledger.as_slice(), sums) == paid
-            && row(self.ledger.as_slice(), sums.saturating_add(1)) == got
-            && row(self.ledger.as_slice(), sums.saturating_add(2)) == earned
+            && row(ledger, sums) == paid
+            && row(ledger, sums.saturating_add(1)) == got
+            && row(ledger, sums.saturating_add(2)) == earned
     }
+}
+
+fn all_marked(numbers: &[u64]) -> bool {
+    numbers.iter().all(|number| *number == MARK)
 }
 
 fn row(ledger: &[u64], k: usize) -> i64 {
-    match ledger.get(k) {
-        Some(money) => money.cast_signed(),
-        None => 0,
-    }
+    ledger.get(k).map_or(0, |money| money.cast_signed())
 }
 
-fn sum_of_rows(ledger: &[u64], from: usize, to: usize) -> i64 {
-    let mut sum: i64 = 0;
-    for k in from..to {
-        sum = sum.wrapping_add(row(ledger, k));
-    }
-    sum
+// So many rows, from one on.
+fn sum_of_rows(ledger: &[u64], from: usize, count: usize) -> i64 {
+    ledger
+        .iter()
+        .skip(from)
+        .take(count)
+        .fold(0i64, |sum, money| sum.wrapping_add(money.cast_signed()))
 }
