@@ -80,7 +80,10 @@ fn short_slices(rt: &HostRuntime) -> Result<(), Fault> {
     let bytes = read_file(rt, format!(in heap; "worked/E.bin")?)?;
     for (number, slice) in Slice::ALL.iter().enumerate() {
         let said = one_short(heap, bytes.as_slice(), *slice)?;
-        write_answer(rt, format!(in heap; "slice {number} short {said}")?.as_str())?;
+        write_answer(
+            rt,
+            format!(in heap; "slice {number} short {said}")?.as_str(),
+        )?;
     }
     Ok(())
 }

@@ -32,6 +32,12 @@ impl Draws {
         least.saturating_add(self.below(width))
     }
 
+    // One of the choices, if there are any.
+    pub fn one_of<T: Copy>(&mut self, choices: &[T]) -> Option<T> {
+        let k = self.below(choices.len() as u64) as usize;
+        choices.get(k).copied()
+    }
+
     pub fn byte(&mut self) -> u8 {
         (self.draw() % 256) as u8
     }

@@ -15,7 +15,7 @@ use crate::small::Small;
 use crate::strings::Strings;
 use crate::trial::{Alike, try_hour};
 use hour::{Fault, arguments, status, tell, write_answer};
-use std::alloc::{AllocError, Global};
+use std::fmt;
 use std::process::ExitCode;
 
 const HOURS: u64 = 300;
@@ -25,9 +25,10 @@ const SEED: u64 = 1;
 // Byte strings for each hour.
 const STRINGS: u64 = 10;
 
-// How many hours are in each way as the slow search has them.
-#[derive(Clone, Copy)]
+// How many hours were tried, and how many are in each way as the slow search has them.
+#[derive(Clone, Copy, Default)]
 struct Tally {
+    hours: u64,
     trades: u64,
     worth: u64,
     prices: u64,
@@ -38,37 +39,24 @@ struct Tally {
     stand: u64,
 }
 
-fn count(sum: u64, one: bool) -> u64 {
-    if one { sum.saturating_add(1) } else { sum }
-}
-
 impl Tally {
-    fn nothing() -> Tally {
-        Tally {
-            trades: 0,
-            worth: 0,
-            prices: 0,
-            accepted: 0,
-            lowest: 0,
-            closes: 0,
-            judged: 0,
-            stand: 0,
-        }
-    }
-
     fn add(&mut self, alike: Alike) {
-        self.trades = count(self.trades, alike.trades);
-        self.worth = count(self.worth, alike.worth);
-        self.prices = count(self.prices, alike.prices);
-        self.accepted = count(self.accepted, alike.accepted);
-        self.lowest = count(self.lowest, alike.lowest);
-        self.closes = count(self.closes, alike.closes);
+        self.hours = self.hours.saturating_add(1);
+        self.trades = self.trades.saturating_add(u64::from(alike.trades));
+        self.worth = self.worth.saturating_add(u64::from(alike.worth));
+        self.prices = self.prices.saturating_add(u64::from(alike.prices));
+        self.accepted = self.accepted.saturating_add(u64::from(alike.accepted));
+        self.lowest = self.lowest.saturating_add(u64::from(alike.lowest));
+        self.closes = self.closes.saturating_add(u64::from(alike.closes));
         self.judged = self.judged.saturating_add(alike.judged);
         self.stand = self.stand.saturating_add(alike.stand);
     }
+}
 
-    fn row(self, heap: Global, hours: u64) -> Result<String, AllocError> {
+impl fmt::Display for Tally {
+    fn fmt<W: fmt::Write>(&self, f: &mut fmt::Formatter<W>) -> fmt::Result {
         let Tally {
+            hours,
             trades,
             worth,
             prices,
@@ -77,9 +65,10 @@ impl Tally {
             closes,
             judged,
             stand,
-        } = self;
-        format!(in heap;
-            "{hours} hours, {trades} with trade: {worth} worth, {prices} prices, {accepted} accepted, {lowest} lowest, {closes} close, {judged} other results judged alike, {stand} of them accepted\n"
+        } = *self;
+        write!(
+            f,
+            "{hours} hours, {trades} with trade: {worth} worth, {prices} prices, {accepted} accepted, {lowest} lowest, {closes} close, {judged} other results judged alike, {stand} of them accepted"
         )
     }
 }
@@ -99,15 +88,12 @@ fn number_or(word: Option<String>, absent: u64) -> Result<u64, Fault> {
     let Some(word) = word else {
         return Ok(absent);
     };
-    match word.as_str().parse::<u64>() {
-        Ok(number) => Ok(number),
-        Err(_) => Err(Fault::Call),
-    }
+    word.as_str().parse::<u64>().map_err(|_| Fault::Call)
 }
 
 fn small_hours(rt: &HostRuntime, draws: &mut Draws, hours: u64) -> Result<(), Fault> {
     let heap = rt.alloc();
-    let mut tally = Tally::nothing();
+    let mut tally = Tally::default();
     for number in 0..hours {
         let small = Small::drawn(heap, draws)?;
         let bytes = small.bytes(heap)?;
@@ -120,26 +106,18 @@ fn small_hours(rt: &HostRuntime, draws: &mut Draws, hours: u64) -> Result<(), Fa
             )?;
         }
     }
-    write_answer(rt, tally.row(heap, hours)?.as_str())
+    write_answer(rt, format!(in heap; "{tally}\n")?.as_str())
 }
 
 fn byte_strings(rt: &HostRuntime, draws: &mut Draws, count: u64) -> Result<(), Fault> {
     let heap = rt.alloc();
-    let mut strings = Strings::none();
+    let mut strings = Strings::default();
     for _ in 0..count {
         strings.try_one(heap, draws)?;
     }
-    let Strings {
-        refused,
-        changed,
-        cleared,
-        open,
-    } = strings;
     write_answer(
         rt,
-        format!(in heap;
-            "{count} byte strings: {refused} refused, {changed} of them changed a slice; {cleared} cleared, {open} of them do not close\n"
-        )?.as_str(),
+        format!(in heap; "{count} byte strings: {strings}\n")?.as_str(),
     )
 }
 

@@ -5,7 +5,30 @@ use crate::search::{Found, Pair, TOP_PRICE};
 use crate::small::Small;
 use std::alloc::{AllocError, Global};
 
-pub const KINDS: u64 = 7;
+// What a result is made of: a pair that settles, the published result, or what is drawn; as it is, with one number changed, or the
+// outcome of one beside the prices of another.
+#[derive(Clone, Copy)]
+pub enum Kind {
+    Settled,
+    SettledNudged,
+    PublishedNudged,
+    PublishedAtSettled,
+    PublishedAtDrawn,
+    SettledAtPublished,
+    Drawn,
+}
+
+impl Kind {
+    pub const ALL: [Kind; 7] = [
+        Kind::Settled,
+        Kind::SettledNudged,
+        Kind::PublishedNudged,
+        Kind::PublishedAtSettled,
+        Kind::PublishedAtDrawn,
+        Kind::SettledAtPublished,
+        Kind::Drawn,
+    ];
+}
 
 // Amounts that may be one too large.
 fn drawn_amounts(draws: &mut Draws, most: &mut [u64]) {
@@ -44,7 +67,7 @@ fn nudge(draws: &mut Draws, numbers: &mut [u64]) {
 }
 
 fn nudged(draws: &mut Draws, pair: &Pair) -> Result<Pair, AllocError> {
-    let mut outcome = pair.outcome.copy()?;
+    let mut outcome = pair.outcome.clone()?;
     let mut prices = pair.prices.clone()?;
     match draws.below(4) {
         0 => nudge(draws, outcome.bought.as_mut_slice()),
@@ -55,28 +78,35 @@ fn nudged(draws: &mut Draws, pair: &Pair) -> Result<Pair, AllocError> {
     Ok(Pair { outcome, prices })
 }
 
-// The result of a kind: a pair that settles, the same with one number changed, and the parts of such a pair, of the published
-// result and of drawn ones put together.
+// A result of a kind.
 pub fn other(
     heap: Global,
     draws: &mut Draws,
     small: &Small,
     published: &Pair,
     found: &Found,
-    kind: u64,
+    kind: Kind,
 ) -> Result<Pair, AllocError> {
-    let outcome = match kind {
-        0 => return found.pick.copy(),
-        1 => return nudged(draws, &found.pick),
-        2 => return nudged(draws, published),
-        3 | 4 => published.outcome.copy()?,
-        5 => found.pick.outcome.copy()?,
-        _ => drawn_outcome(heap, draws, small)?,
-    };
-    let prices = match kind {
-        3 => found.pick.prices.clone()?,
-        5 => published.prices.clone()?,
-        _ => drawn_prices(heap, draws, small)?,
-    };
-    Ok(Pair { outcome, prices })
+    let settled = &found.pick;
+    match kind {
+        Kind::Settled => settled.clone(),
+        Kind::SettledNudged => nudged(draws, settled),
+        Kind::PublishedNudged => nudged(draws, published),
+        Kind::PublishedAtSettled => Ok(Pair {
+            outcome: published.outcome.clone()?,
+            prices: settled.prices.clone()?,
+        }),
+        Kind::PublishedAtDrawn => Ok(Pair {
+            outcome: published.outcome.clone()?,
+            prices: drawn_prices(heap, draws, small)?,
+        }),
+        Kind::SettledAtPublished => Ok(Pair {
+            outcome: settled.outcome.clone()?,
+            prices: published.prices.clone()?,
+        }),
+        Kind::Drawn => Ok(Pair {
+            outcome: drawn_outcome(heap, draws, small)?,
+            prices: drawn_prices(heap, draws, small)?,
+        }),
+    }
 }

@@ -5,7 +5,7 @@ use hour::{Bid, Line};
 use std::alloc::{AllocError, Global};
 
 // An amount of each buy and each sell, and a flow on each line.
-#[derive(Drop)]
+#[derive(Clone, Drop)]
 pub struct Outcome {
     pub bought: Vec<u64>,
     pub sold: Vec<u64>,
@@ -13,19 +13,7 @@ pub struct Outcome {
 }
 
 fn amounts_of(heap: Global, bids: &[Bid]) -> Result<Vec<u64>, AllocError> {
-    let mut amounts = Vec::new(heap);
-    for bid in bids {
-        amounts.push(bid.amount)?;
-    }
-    Ok(amounts)
-}
-
-fn capacities_of(heap: Global, lines: &[Line]) -> Result<Vec<u64>, AllocError> {
-    let mut capacities = Vec::new(heap);
-    for line in lines {
-        capacities.push(line.capacity)?;
-    }
-    Ok(capacities)
+    bids.iter().map(|bid| bid.amount).collect(heap)
 }
 
 impl Outcome {
@@ -42,57 +30,47 @@ impl Outcome {
         Ok(Outcome {
             bought: amounts_of(heap, small.buys.as_slice())?,
             sold: amounts_of(heap, small.sells.as_slice())?,
-            flow: capacities_of(heap, small.lines.as_slice())?,
-        })
-    }
-
-    pub fn copy(&self) -> Result<Outcome, AllocError> {
-        Ok(Outcome {
-            bought: self.bought.clone()?,
-            sold: self.sold.clone()?,
-            flow: self.flow.clone()?,
+            flow: small.lines.iter().map(|line| line.capacity).collect(heap)?,
         })
     }
 }
 
-fn amount_in(bids: &[Bid], amounts: &[u64], zone: u64) -> u64 {
+// The amounts together of those that are in a place.
+fn total_in<T, F: Fn(&T) -> bool>(entries: &[T], amounts: &[u64], in_place: F) -> u64
+    requires { F.IsAlwaysCallable in_place }
+{
     let mut sum: u64 = 0;
-    for (bid, amount) in bids.iter().zip(amounts.iter()) {
-        if bid.zone == zone {
+    for (entry, amount) in entries.iter().zip(amounts.iter()) {
+        if in_place(entry) {
             sum = sum.saturating_add(*amount);
         }
     }
     sum
 }
 
-fn flow_into(lines: &[Line], flow: &[u64], zone: u64) -> u64 {
-    let mut sum: u64 = 0;
-    for (line, amount) in lines.iter().zip(flow.iter()) {
-        if line.to == zone {
-            sum = sum.saturating_add(*amount);
-        }
-    }
-    sum
+// In a zone, what is sold and comes in is what is bought and goes out.
+fn balanced_in(small: &Small, o: &Outcome, zone: u64) -> bool {
+    let sold = total_in(small.sells.as_slice(), o.sold.as_slice(), |sell| {
+        sell.zone == zone
+    });
+    let bought = total_in(small.buys.as_slice(), o.bought.as_slice(), |buy| {
+        buy.zone == zone
+    });
+    let comes = total_in(small.lines.as_slice(), o.flow.as_slice(), |line| {
+        line.to == zone
+    });
+    let goes = total_in(small.lines.as_slice(), o.flow.as_slice(), |line| {
+        line.from == zone
+    });
+    sold.saturating_add(comes) == bought.saturating_add(goes)
 }
 
-fn flow_out(lines: &[Line], flow: &[u64], zone: u64) -> u64 {
-    let mut sum: u64 = 0;
-    for (line, amount) in lines.iter().zip(flow.iter()) {
-        if line.from == zone {
-            sum = sum.saturating_add(*amount);
-        }
-    }
-    sum
-}
-
-// In every zone, what is sold and comes in is what is bought and goes out.
-fn balanced(small: &Small, o: &Outcome) -> bool {
-    for zone in 0..small.zones {
-        let sold = amount_in(small.sells.as_slice(), o.sold.as_slice(), zone);
-        let bought = amount_in(small.buys.as_slice(), o.bought.as_slice(), zone);
-        let comes = flow_into(small.lines.as_slice(), o.flow.as_slice(), zone);
-        let goes = flow_out(small.lines.as_slice(), o.flow.as_slice(), zone);
-        if sold.saturating_add(comes) != bought.saturating_add(goes) {
+// Whether each has an amount that it is content with.
+fn each_content<T, F: Fn(&T, u64) -> bool>(entries: &[T], amounts: &[u64], content: F) -> bool
+    requires { F.IsAlwaysCallable content }
+{
+    for (entry, amount) in entries.iter().zip(amounts.iter()) {
+        if !content(entry, *amount) {
             return false;
         }
     }
@@ -100,21 +78,11 @@ fn balanced(small: &Small, o: &Outcome) -> bool {
 }
 
 fn bids_within(bids: &[Bid], amounts: &[u64]) -> bool {
-    for (bid, amount) in bids.iter().zip(amounts.iter()) {
-        if *amount > bid.amount {
-            return false;
-        }
-    }
-    true
+    each_content(bids, amounts, |bid, amount| amount <= bid.amount)
 }
 
 fn lines_within(lines: &[Line], flow: &[u64]) -> bool {
-    for (line, amount) in lines.iter().zip(flow.iter()) {
-        if *amount > line.capacity {
-            return false;
-        }
-    }
-    true
+    each_content(lines, flow, |line, amount| amount <= line.capacity)
 }
 
 // Nobody has more than the bid says, no line carries more than it can, and every zone balances.
@@ -122,15 +90,16 @@ pub fn carried_out(small: &Small, o: &Outcome) -> bool {
     bids_within(small.buys.as_slice(), o.bought.as_slice())
         && bids_within(small.sells.as_slice(), o.sold.as_slice())
         && lines_within(small.lines.as_slice(), o.flow.as_slice())
-        && balanced(small, o)
+        && (0..small.zones).all(|zone| balanced_in(small, o, zone))
 }
 
 fn at_own_price(bids: &[Bid], amounts: &[u64]) -> i64 {
-    let mut sum: u64 = 0;
-    for (bid, amount) in bids.iter().zip(amounts.iter()) {
-        sum = sum.saturating_add(bid.price.saturating_mul(*amount));
-    }
-    sum.cast_signed()
+    bids.iter()
+        .zip(amounts.iter())
+        .fold(0u64, |sum, (bid, amount)| {
+            sum.saturating_add(bid.price.saturating_mul(*amount))
+        })
+        .cast_signed()
 }
 
 // What is bought at the buyers' prices, less what is sold at the sellers'.
@@ -141,10 +110,7 @@ pub fn worth(small: &Small, o: &Outcome) -> i64 {
 }
 
 fn price_in(prices: &[u64], zone: u64) -> u64 {
-    match prices.get(zone as usize) {
-        Some(price) => *price,
-        None => 0,
-    }
+    prices.get(zone as usize).copied().unwrap_or(0)
 }
 
 // Who gains by every unit wants all of them, who loses by every unit wants none, and who does neither takes any amount.
@@ -159,38 +125,24 @@ fn content(cost: u64, value: u64, amount: u64, most: u64) -> bool {
 }
 
 fn buys_content(buys: &[Bid], bought: &[u64], prices: &[u64]) -> bool {
-    for (buy, amount) in buys.iter().zip(bought.iter()) {
-        if !content(price_in(prices, buy.zone), buy.price, *amount, buy.amount) {
-            return false;
-        }
-    }
-    true
+    each_content(buys, bought, |buy, amount| {
+        content(price_in(prices, buy.zone), buy.price, amount, buy.amount)
+    })
 }
 
 fn sells_content(sells: &[Bid], sold: &[u64], prices: &[u64]) -> bool {
-    for (sell, amount) in sells.iter().zip(sold.iter()) {
-        if !content(
-            sell.price,
-            price_in(prices, sell.zone),
-            *amount,
-            sell.amount,
-        ) {
-            return false;
-        }
-    }
-    true
+    each_content(sells, sold, |sell, amount| {
+        content(sell.price, price_in(prices, sell.zone), amount, sell.amount)
+    })
 }
 
 // A line buys where it begins and sells where it ends.
 fn lines_content(lines: &[Line], flow: &[u64], prices: &[u64]) -> bool {
-    for (line, amount) in lines.iter().zip(flow.iter()) {
+    each_content(lines, flow, |line, amount| {
         let cost = price_in(prices, line.from);
         let value = price_in(prices, line.to);
-        if !content(cost, value, *amount, line.capacity) {
-            return false;
-        }
-    }
-    true
+        content(cost, value, amount, line.capacity)
+    })
 }
 
 pub fn settled(small: &Small, o: &Outcome, prices: &[u64]) -> bool {

@@ -8,19 +8,10 @@ use std::alloc::{AllocError, Global};
 pub const TOP_PRICE: u64 = 10;
 
 // An outcome with prices.
-#[derive(Drop)]
+#[derive(Clone, Drop)]
 pub struct Pair {
     pub outcome: Outcome,
     pub prices: Vec<u64>,
-}
-
-impl Pair {
-    pub fn copy(&self) -> Result<Pair, AllocError> {
-        Ok(Pair {
-            outcome: self.outcome.copy()?,
-            prices: self.prices.clone()?,
-        })
-    }
 }
 
 // What the search found.
@@ -56,11 +47,10 @@ fn next_outcome(o: &mut Outcome, most: &Outcome) -> bool {
 
 // How many lists of digits there are.
 fn lists(most: &[u64]) -> u64 {
-    let mut count: u64 = 1;
-    for most in most {
-        count = count.saturating_mul(most.saturating_add(1));
-    }
-    count
+    most.iter().fold(
+        1u64,
+        |count, most| count.saturating_mul(most.saturating_add(1)),
+    )
 }
 
 fn outcomes(most: &Outcome) -> u64 {
@@ -72,9 +62,7 @@ fn outcomes(most: &Outcome) -> u64 {
 // Each number becomes the smaller of itself and of the other in its place.
 fn lower_to(lowest: &mut [u64], prices: &[u64]) {
     for (low, price) in lowest.iter_mut().zip(prices.iter()) {
-        if *price < *low {
-            *low = *price;
-        }
+        *low = (*low).min(*price);
     }
 }
 
@@ -102,7 +90,7 @@ impl Found {
         self.pairs = self.pairs.saturating_add(1);
         if draws.below(self.pairs) == 0 {
             self.pick = Pair {
-                outcome: o.copy()?,
+                outcome: o.clone()?,
                 prices: prices.clone()?,
             };
         }

@@ -2,16 +2,15 @@
 use crate::draws::Draws;
 use crate::small::Small;
 use hour::read_head;
-use lent::{Lent, Sizes};
+use lent::{Lent, Sizes, Slice};
 use std::alloc::{AllocError, Global};
+use std::fmt;
 
 const LONGEST: u64 = 48;
 
 const HEAD: usize = 7;
 
-const SLICES: u64 = 6;
-
-#[derive(Clone, Copy)]
+#[derive(Clone, Copy, Default)]
 pub struct Strings {
     pub refused: u64,
     // Refused, and a lent number is another than before.
@@ -65,28 +64,14 @@ fn drawn_string(heap: Global, draws: &mut Draws, small: &Small) -> Result<Vec<u8
 
 // Slices for what the string says, or for the hour that it was made of where it says nothing; one time in four one is too short.
 fn drawn_sizes(draws: &mut Draws, small: &Small, bytes: &[u8]) -> Sizes {
-    let sizes = match read_head(bytes) {
-        Ok(head) => Sizes::for_head(head),
-        Err(_) => Sizes::for_head(small.head()),
-    };
-    let slice = draws.below(SLICES) as usize;
-    if draws.below(4) == 0 {
-        sizes.one_short(slice)
-    } else {
-        sizes
+    let sizes = Sizes::for_head(read_head(bytes).unwrap_or(small.head()));
+    match draws.one_of(&Slice::ALL) {
+        Some(slice) if draws.below(4) == 0 => sizes.one_short(slice),
+        _ => sizes,
     }
 }
 
 impl Strings {
-    pub fn none() -> Strings {
-        Strings {
-            refused: 0,
-            changed: 0,
-            cleared: 0,
-            open: 0,
-        }
-    }
-
     pub fn try_one(&mut self, heap: Global, draws: &mut Draws) -> Result<(), AllocError> {
         let small = Small::drawn(heap, draws)?;
         let bytes = drawn_string(heap, draws, &small)?;
@@ -106,5 +91,20 @@ impl Strings {
             }
         }
         Ok(())
+    }
+}
+
+impl fmt::Display for Strings {
+    fn fmt<W: fmt::Write>(&self, f: &mut fmt::Formatter<W>) -> fmt::Result {
+        let Strings {
+            refused,
+            changed,
+            cleared,
+            open,
+        } = *self;
+        write!(
+            f,
+            "{refused} refused, {changed} of them changed a slice; {cleared} cleared, {open} of them do not close"
+        )
     }
 }

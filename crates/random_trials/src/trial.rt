@@ -1,17 +1,18 @@
 // One small hour: what is published of it and what the checker says, held beside what the slow search found.
 use crate::draws::Draws;
-use crate::others::{KINDS, other};
+use crate::others::{Kind, other};
 use crate::rules::{Outcome, carried_out, settled, worth};
 use crate::search::{Found, Pair, search};
 use crate::small::Small;
 use checker::{Objection, check, lowest};
 use hour::read_head;
 use ledger::published;
-use lent::{Lent, Sizes};
+use lent::{Lent, Sizes, Slices};
 use std::alloc::{AllocError, Global};
 
 // What of an hour is as the slow search has it.
-#[derive(Clone, Copy)]
+// Nothing of an hour that is refused is as it should be.
+#[derive(Clone, Copy, Default)]
 pub struct Alike {
     // Something can be bought and sold for more than nothing: of other hours the trial shows less.
     pub trades: bool,
@@ -30,27 +31,13 @@ pub struct Alike {
 }
 
 impl Alike {
-    // Nothing of an hour that is refused is as it should be.
-    fn nothing() -> Alike {
-        Alike {
-            trades: false,
-            worth: false,
-            prices: false,
-            accepted: false,
-            lowest: false,
-            closes: false,
-            judged: 0,
-            stand: 0,
-        }
-    }
-
     pub fn all(self) -> bool {
         self.worth
             && self.prices
             && self.accepted
             && self.lowest
             && self.closes
-            && self.judged == KINDS
+            && self.judged == Kind::ALL.len() as u64
     }
 }
 
@@ -60,11 +47,11 @@ fn clear_small(heap: Global, bytes: &[u8]) -> Result<Option<(Pair, bool)>, Alloc
         return Ok(None);
     };
     let mut lent = Lent::new(heap, Sizes::for_head(head))?;
-    if let Err(_) = lent.clear(bytes) {
+    if lent.clear(bytes).is_err() {
         return Ok(None);
     }
     let closes = lent.closes();
-    let Lent {
+    let Slices {
         bought,
         sold,
         flow,
@@ -117,12 +104,10 @@ fn rank(bytes: &[u8], pair: &Pair) -> Result<Option<usize>, Objection> {
 
 // The first zone whose price is above the lowest of the lists that settle.
 fn first_above(prices: &[u64], lowest: &[u64]) -> Option<usize> {
-    for (zone, (price, low)) in prices.iter().zip(lowest.iter()).enumerate() {
-        if *price > *low {
-            return Some(zone);
-        }
-    }
-    None
+    prices
+        .iter()
+        .zip(lowest.iter())
+        .position(|(price, low)| *price > *low)
 }
 
 // Whether the checker says of a result that stands, and of no other, which zone is the first that could be lower.
@@ -149,7 +134,7 @@ fn judge_others(
 ) -> Result<(u64, u64), AllocError> {
     let mut judged: u64 = 0;
     let mut stand: u64 = 0;
-    for kind in 0..KINDS {
+    for kind in Kind::ALL {
         let pair = other(heap, draws, small, res, found, kind)?;
         let stands = stands_in(small, &pair);
         if accepts(bytes, &pair) == stands && ranked_alike(bytes, &pair, stands, found) {
@@ -170,7 +155,7 @@ pub fn try_hour(
 ) -> Result<Alike, AllocError> {
     let found = search(heap, draws, small)?;
     let Some((result, closes)) = clear_small(heap, bytes)? else {
-        return Ok(Alike::nothing());
+        return Ok(Alike::default());
     };
     let (judged, stand) = judge_others(heap, draws, small, bytes, &result, &found)?;
     Ok(Alike {
