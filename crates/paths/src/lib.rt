@@ -1,6 +1,7 @@
 // Shortest ways to the hub through what an outcome leaves free.
 #![tactic(auto)]
 
+mod given;
 pub mod promises;
 mod relax;
 mod search;

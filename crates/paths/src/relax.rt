@@ -2,12 +2,13 @@
 ghost use Rattle.std.specs.Prelude.{◌≡◌, ℕ, ◌+◌, ◌^◌, ◌<◌, ◌≤◌, length, if◌then◌else◌, slice_set};
 ghost use Rattle.network.specs.Tables.{items};
 ghost use Rattle.paths.specs.Labels.{BestLabels};
-ghost use Rattle.paths.specs.Search.{market_given, outcome_given, Sound, Relaxed, Settling, Raised, KeepsBids, turned};
+ghost use Rattle.paths.specs.Search.{market_given, outcome_given, Relaxed, Settling, Raised, KeepsBids, turned};
 ghost use Rattle.paths.specs.Ways.{way_at, way_better, over_line, worths, fars};
 
+use crate::given::Given;
 use crate::ways::Way;
 use hour::Line;
-use network::{Amounts, Tables, row_in};
+use network::row_in;
 
 // The way over a line from v to w is taken where it is better than the one that v has. Answers how many labels rose.
 fn raise(ways: &mut [Way], v: usize, w: usize) -> u64
@@ -27,18 +28,17 @@ fn raise(ways: &mut [Way], v: usize, w: usize) -> u64
 }
 
 // A line, both ways: with room it leads from its beginning to its end, and where it carries something from its end to its beginning.
-fn relax(t: Tables, o: Amounts, l: usize, ways: &mut [Way]) -> u64
-    requires sound { Sound t o }
-    requires within { l < items t.lines.now }
-    requires settling { Settling t o ways.old }
-    ensures raised { Raised t.entry o.entry ways.old result ways.new }
-    ensures relaxed { result ≡ 0 → Relaxed (market_given t.entry) (outcome_given o.entry) (worths ways.old) (fars ways.old) l }
+fn relax(given: Given, l: usize, ways: &mut [Way]) -> u64
+    requires within { l < items given.tables.lines.now }
+    requires settling { Settling given.tables given.amounts ways.old }
+    ensures raised { Raised given.entry.tables given.entry.amounts ways.old result ways.new }
+    ensures relaxed { result ≡ 0 → Relaxed (market_given given.entry.tables) (outcome_given given.entry.amounts) (worths ways.old) (fars ways.old) l }
     ensures few { result ≤ 2 }
 {
-    let line: Line = row_in(t.lines, l);
+    let line: Line = row_in(given.tables.lines, l);
     let from = line.from as usize;
     let to = line.to as usize;
-    let flow = o.flow[l];
+    let flow = given.amounts.flow[l];
     let forth = if flow < line.capacity {
         raise(ways, from, to)
     } else {
@@ -59,29 +59,27 @@ fn turn(from_last: bool, n: usize, j: usize) -> usize
 
 // All lines, from the first to the last or, in turn, from the last to the first: the order changes how many rounds there are,
 // and not what they come to.
-fn round(t: Tables, o: Amounts, from_last: bool, ways: &mut [Way]) -> u64
-    requires sound { Sound t o }
-    requires settling { Settling t o ways.old }
-    ensures raised { Raised t.entry o.entry ways.old result ways.new }
-    ensures relaxed { result ≡ 0 → (l : ℕ) → l < items t.entry.lines.now → Relaxed (market_given t.entry) (outcome_given o.entry) (worths ways.new) (fars ways.new) l }
+fn round(given: Given, from_last: bool, ways: &mut [Way]) -> u64
+    requires { Settling given.tables given.amounts ways.old }
+    ensures raised { Raised given.entry.tables given.entry.amounts ways.old result ways.new }
+    ensures relaxed { result ≡ 0 → (l : ℕ) → l < items given.entry.tables.lines.now → Relaxed (market_given given.entry.tables) (outcome_given given.entry.amounts) (worths ways.new) (fars ways.new) l }
 {
-    let lines = t.lines.len() / 3;
+    let lines = given.tables.lines.len() / 3;
     let mut rose = 0;
     for k in 0..lines {
-        rose += relax(t, o, turn(from_last, lines, k), ways);
+        rose += relax(given, turn(from_last, lines, k), ways);
     }
     rose
 }
 
 // Round after round, until no line raises a label.
-pub fn settle(t: Tables, o: Amounts, ways: &mut [Way])
-    requires sound { Sound t o }
-    requires settling { Settling t o ways.old }
-    ensures labels { BestLabels (market_given t.entry) (outcome_given o.entry) (worths ways.new) (fars ways.new) }
+pub fn settle(given: Given, ways: &mut [Way])
+    requires { Settling given.tables given.amounts ways.old }
+    ensures labels { BestLabels (market_given given.entry.tables) (outcome_given given.entry.amounts) (worths ways.new) (fars ways.new) }
     ensures bids { KeepsBids ways.old ways.new }
 {
     let mut from_last = false;
-    while round(t, o, from_last, ways) > 0 {
+    while round(given, from_last, ways) > 0 {
         from_last = !from_last;
     }
 }

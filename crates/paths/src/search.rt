@@ -10,6 +10,7 @@ ghost use Rattle.paths.specs.Promises.{Shown};
 ghost use Rattle.paths.specs.Search.{market_given, outcome_given, Sound, KeepsAllButOut};
 ghost use Rattle.paths.specs.Ways.{way_pays, worths, fars, outs, plan_of};
 
+use crate::given::Given;
 use crate::relax::settle;
 use crate::takers::{look_at_buys, look_at_sells};
 use crate::ways::Way;
@@ -17,14 +18,13 @@ use hour::Line;
 use network::{Amounts, Tables, row_in};
 
 // Whether line l leads from zone v, through what is left free, to a zone with a way worth as much, over one line less.
-fn leads_onward(t: Tables, o: Amounts, ways: &[Way], v: usize, l: usize) -> bool
-    requires sound { Sound t o }
-    requires within { (l < items t.lines.now) × (v < t.zones) }
-    requires zones { length ways.now ≡ t.zones }
-    ensures { result ≡ onward (market_given t.entry) (outcome_given o.entry) (worths ways.now) (fars ways.now) v l }
+fn leads_onward(given: Given, ways: &[Way], v: usize, l: usize) -> bool
+    requires within { (l < items given.tables.lines.now) × (v < given.tables.zones) }
+    requires zones { length ways.now ≡ given.tables.zones }
+    ensures { result ≡ onward (market_given given.entry.tables) (outcome_given given.entry.amounts) (worths ways.now) (fars ways.now) v l }
 {
-    let line: Line = row_in(t.lines, l);
-    let flow = o.flow[l];
+    let line: Line = row_in(given.tables.lines, l);
+    let flow = given.amounts.flow[l];
     let from = line.from as usize;
     let to = line.to as usize;
     if from == v && flow < line.capacity && ways[to].is_nearer(&ways[v]) {
@@ -34,22 +34,21 @@ fn leads_onward(t: Tables, o: Amounts, ways: &[Way], v: usize, l: usize) -> bool
 }
 
 // How each zone's way leaves it: by its own taker, which it has already, or by the first line that leads on.
-fn ways_out(t: Tables, o: Amounts, ways: &mut [Way])
-    requires sound { Sound t o }
-    requires zones { length ways.old ≡ t.zones }
-    requires labels { BestLabels (market_given t) (outcome_given o) (worths ways.old) (fars ways.old) }
-    requires takers { (v : ℕ) → v < t.zones → at (outs ways.old) v ≡ numbered (taker (market_given t) (outcome_given o) v) }
-    ensures out { (v : ℕ) → v < t.entry.zones → at (outs ways.new) v ≡ out_no (market_given t.entry) (outcome_given o.entry) (worths ways.new) (fars ways.new) v }
+fn ways_out(given: Given, ways: &mut [Way])
+    requires zones { length ways.old ≡ given.tables.zones }
+    requires labels { BestLabels (market_given given.tables) (outcome_given given.amounts) (worths ways.old) (fars ways.old) }
+    requires takers { (v : ℕ) → v < given.tables.zones → at (outs ways.old) v ≡ numbered (taker (market_given given.tables) (outcome_given given.amounts) v) }
+    ensures out { (v : ℕ) → v < given.entry.tables.zones → at (outs ways.new) v ≡ out_no (market_given given.entry.tables) (outcome_given given.entry.amounts) (worths ways.new) (fars ways.new) v }
     ensures others { KeepsAllButOut ways.old ways.new }
 {
-    let bids = (t.buys.len() / 3 + t.sells.len() / 3) as u64;
+    let bids = (given.tables.buys.len() / 3 + given.tables.sells.len() / 3) as u64;
     'zones: for v in 0..ways.len() {
         if ways[v].far == 0 {
             continue;
         }
         ways[v].out = 0;
-        for l in 0..t.lines.len() / 3 {
-            if leads_onward(t, o, ways, v, l) {
+        for l in 0..given.tables.lines.len() / 3 {
+            if leads_onward(given, ways, v, l) {
                 ways[v].out = bids + l as u64 + 1;
                 continue 'zones;
             }
@@ -65,17 +64,16 @@ fn find_paying(ways: &[Way]) -> Option<usize>
 }
 
 // Labels, ways out and givers of an outcome. Nothing is taken over from what the ways were.
-fn plan_ways(t: Tables, o: Amounts, ways: &mut [Way])
-    requires sound { Sound t o }
-    requires zones { length ways.old ≡ t.zones }
-    ensures planned { Planned (market_given t.entry) (outcome_given o.entry) (plan_of ways.new) }
-    ensures shown { Feasible (market_given t.entry) (outcome_given o.entry) → Shown (market_given t.entry) (outcome_given o.entry) (plan_of ways.new) (first_paying (market_given t.entry) (plan_of ways.new)) }
+fn plan_ways(given: Given, ways: &mut [Way])
+    requires { length ways.old ≡ given.tables.zones }
+    ensures planned { Planned (market_given given.entry.tables) (outcome_given given.entry.amounts) (plan_of ways.new) }
+    ensures shown { Feasible (market_given given.entry.tables) (outcome_given given.entry.amounts) → Shown (market_given given.entry.tables) (outcome_given given.entry.amounts) (plan_of ways.new) (first_paying (market_given given.entry.tables) (plan_of ways.new)) }
 {
     ways.fill(Way::NONE);
-    look_at_buys(t, o, ways);
-    look_at_sells(t, o, ways);
-    settle(t, o, ways);
-    ways_out(t, o, ways);
+    look_at_buys(given, ways);
+    look_at_sells(given, ways);
+    settle(given, ways);
+    ways_out(given, ways);
 }
 
 // The best way of each zone to the hub, written into a lent slice, and the first zone that pays.
@@ -87,6 +85,12 @@ pub fn find_ways(t: Tables, o: Amounts, ways: &mut [Way]) -> Option<usize>
     ensures answer { result ≡ first_paying (market_given t.entry) (plan_of ways.new) }
     ensures shown { Feasible (market_given t.entry) (outcome_given o.entry) → Shown (market_given t.entry) (outcome_given o.entry) (plan_of ways.new) (first_paying (market_given t.entry) (plan_of ways.new)) }
 {
-    plan_ways(t, o, ways);
+    plan_ways(
+        Given {
+            tables: t,
+            amounts: o,
+        },
+        ways,
+    );
     find_paying(ways)
 }

@@ -1,11 +1,12 @@
 // The best bid of each zone that can take power, and the best that can give it.
 ghost use Rattle.std.specs.Prelude.{◌≡◌, ◌+◌, ◌^◌, ◌<◌, if◌then◌else◌, ◌&&◌, ◌||◌, ◌==◌, nat_lt};
 ghost use Rattle.network.specs.Tables.{items};
-ghost use Rattle.paths.specs.Search.{Sound, Looks, Looked};
+ghost use Rattle.paths.specs.Search.{Looks, Looked};
 
+use crate::given::Given;
 use crate::ways::Way;
 use hour::Bid;
-use network::{Amounts, Tables, row_in};
+use network::row_in;
 
 // A zone's best taker yields to a dearer one, and its best giver to a cheaper one; so the first among equals stays.
 impl Way {
@@ -36,10 +37,10 @@ fn note(label: &mut u64, numbered: &mut u64, is_sought: bool, yields: bool, bid:
 }
 
 // The bid with a number among all, in its zone.
-fn look(t: Tables, o: Amounts, number: u64, bid: Bid, takes: bool, gives: bool, ways: &mut [Way])
-    requires looks { Looks t o number bid takes gives }
-    requires looked { Looked t o number ways.old }
-    ensures { Looked t.entry o.entry (number + 1) ways.new }
+fn look(given: Given, number: u64, bid: Bid, takes: bool, gives: bool, ways: &mut [Way])
+    requires looks { Looks given.tables given.amounts number bid takes gives }
+    requires looked { Looked given.tables given.amounts number ways.old }
+    ensures { Looked given.entry.tables given.entry.amounts (number + 1) ways.new }
 {
     let way = &mut ways[bid.zone as usize];
     let dearer = way.yields_to_taker(bid.price);
@@ -49,31 +50,28 @@ fn look(t: Tables, o: Amounts, number: u64, bid: Bid, takes: bool, gives: bool, 
 }
 
 // Buys take what they have room for, and give what they have.
-pub fn look_at_buys(t: Tables, o: Amounts, ways: &mut [Way])
-    requires sound { Sound t o }
-    requires looked { Looked t o 0 ways.old }
-    ensures { Looked t.entry o.entry (items t.entry.buys.now) ways.new }
+pub fn look_at_buys(given: Given, ways: &mut [Way])
+    requires { Looked given.tables given.amounts 0 ways.old }
+    ensures { Looked given.entry.tables given.entry.amounts (items given.entry.tables.buys.now) ways.new }
 {
-    for k in 0..t.buys.len() / 3 {
-        let bid: Bid = row_in(t.buys, k);
-        let has = o.bought[k];
-        look(t, o, k as u64, bid, has < bid.amount, 0 < has, ways);
+    for k in 0..given.tables.buys.len() / 3 {
+        let bid: Bid = row_in(given.tables.buys, k);
+        let has = given.amounts.bought[k];
+        look(given, k as u64, bid, has < bid.amount, 0 < has, ways);
     }
 }
 
 // Sells take back what they have, and give what they have left.
-pub fn look_at_sells(t: Tables, o: Amounts, ways: &mut [Way])
-    requires sound { Sound t o }
-    requires looked { Looked t o (items t.buys.now) ways.old }
-    ensures { Looked t.entry o.entry (items t.entry.buys.now + items t.entry.sells.now) ways.new }
+pub fn look_at_sells(given: Given, ways: &mut [Way])
+    requires { Looked given.tables given.amounts (items given.tables.buys.now) ways.old }
+    ensures { Looked given.entry.tables given.entry.amounts (items given.entry.tables.buys.now + items given.entry.tables.sells.now) ways.new }
 {
-    let buys = t.buys.len() / 3;
-    for k in 0..t.sells.len() / 3 {
-        let bid: Bid = row_in(t.sells, k);
-        let has = o.sold[k];
+    let buys = given.tables.buys.len() / 3;
+    for k in 0..given.tables.sells.len() / 3 {
+        let bid: Bid = row_in(given.tables.sells, k);
+        let has = given.amounts.sold[k];
         look(
-            t,
-            o,
+            given,
             (buys + k) as u64,
             bid,
             0 < has,

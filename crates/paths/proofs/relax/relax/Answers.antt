@@ -8,51 +8,51 @@ use Rattle.paths.proofs.relax.relax.Goals as goal
 
 pub raise-forth-requires : goal.raise-forth-requires
 raise-forth-requires c =
-    let from_in = from_below _ _ c.requires.sound _ c.requires.within _ c.row_in-line.ensures in
-    let to_in = to_below _ _ c.requires.sound _ c.requires.within _ c.row_in-line.ensures in
-    ends_in _ _ c.requires.sound _ c.requires.within _ c.row_in-line.ensures _ c.requires.settling _ _ from_in to_in
+    let from_in = from_below _ _ c.args.given.sound _ c.requires.within _ c.row_in-line.ensures in
+    let to_in = to_below _ _ c.args.given.sound _ c.requires.within _ c.row_in-line.ensures in
+    ends_in _ _ c.args.given.sound _ c.requires.within _ c.row_in-line.ensures _ c.requires.settling _ _ from_in to_in
 
 pub raise-back-requires : goal.raise-back-requires
 raise-back-requires c =
-    let forth : StepDone c.args.t c.args.o (Forward (Line c.args.l)) c.args.ways.now c.if-flow-line.forth c.if-flow-line.ways =
+    let forth : StepDone c.args.given.tables c.args.given.amounts (Forward (Line c.args.l)) c.args.ways.now c.if-flow-line.forth c.if-flow-line.ways =
     elim c.if-flow-line.branch [
       | then-flow-line w ↦
           rw (w.ways-is, w.forth-is)
-          (forward_done _ _ c.requires.sound _ c.requires.within _ c.row_in-line.ensures _ c.requires.settling _ _
+          (forward_done _ _ c.args.given.sound _ c.requires.within _ c.row_in-line.ensures _ c.requires.settling _ _
           w.if-flow-line.true w.raise-forth.ensures.answer w.raise-forth.ensures.ways)
       | else-flow-line w ↦
           rw (w.ways-is, w.forth-is)
-          (forward_closed _ _ c.requires.sound _ c.requires.within _ c.row_in-line.ensures _ c.requires.settling
+          (forward_closed _ _ c.args.given.sound _ c.requires.within _ c.row_in-line.ensures _ c.requires.settling
           w.if-flow-line.false)
     ]
     in
-    let from_in = from_below _ _ c.requires.sound _ c.requires.within _ c.row_in-line.ensures in
-    let to_in = to_below _ _ c.requires.sound _ c.requires.within _ c.row_in-line.ensures in
-    ends_in _ _ c.requires.sound _ c.requires.within _ c.row_in-line.ensures _ forth.raised.settling _ _ to_in from_in
+    let from_in = from_below _ _ c.args.given.sound _ c.requires.within _ c.row_in-line.ensures in
+    let to_in = to_below _ _ c.args.given.sound _ c.requires.within _ c.row_in-line.ensures in
+    ends_in _ _ c.args.given.sound _ c.requires.within _ c.row_in-line.ensures _ forth.raised.settling _ _ to_in from_in
 
 pub returns : goal.returns
 returns c =
-    let forth : StepDone c.args.t c.args.o (Forward (Line c.args.l)) c.args.ways.now c.if-flow-line.forth c.if-flow-line.ways =
+    let forth : StepDone c.args.given.tables c.args.given.amounts (Forward (Line c.args.l)) c.args.ways.now c.if-flow-line.forth c.if-flow-line.ways =
     elim c.if-flow-line.branch [
       | then-flow-line w ↦
           rw (w.ways-is, w.forth-is)
-          (forward_done _ _ c.requires.sound _ c.requires.within _ c.row_in-line.ensures _ c.requires.settling _ _
+          (forward_done _ _ c.args.given.sound _ c.requires.within _ c.row_in-line.ensures _ c.requires.settling _ _
           w.if-flow-line.true w.raise-forth.ensures.answer w.raise-forth.ensures.ways)
       | else-flow-line w ↦
           rw (w.ways-is, w.forth-is)
-          (forward_closed _ _ c.requires.sound _ c.requires.within _ c.row_in-line.ensures _ c.requires.settling
+          (forward_closed _ _ c.args.given.sound _ c.requires.within _ c.row_in-line.ensures _ c.requires.settling
           w.if-flow-line.false)
     ]
     in
-    let back : StepDone c.args.t c.args.o (Backward (Line c.args.l)) c.if-flow-line.ways c.if-flow-gt0.back c.if-flow-gt0.ways =
+    let back : StepDone c.args.given.tables c.args.given.amounts (Backward (Line c.args.l)) c.if-flow-line.ways c.if-flow-gt0.back c.if-flow-gt0.ways =
     elim c.if-flow-gt0.branch [
       | then-flow-gt0 w ↦
           rw (w.ways-is, w.back-is)
-          (backward_done _ _ c.requires.sound _ c.requires.within _ c.row_in-line.ensures _ forth.raised.settling _ _
+          (backward_done _ _ c.args.given.sound _ c.requires.within _ c.row_in-line.ensures _ forth.raised.settling _ _
           w.if-flow-gt0.true w.raise-back.ensures.answer w.raise-back.ensures.ways)
       | else-flow-gt0 w ↦
           rw (w.ways-is, w.back-is)
-          (backward_closed _ _ c.requires.sound _ c.requires.within _ c.row_in-line.ensures _ forth.raised.settling
+          (backward_closed _ _ c.args.given.sound _ c.requires.within _ c.row_in-line.ensures _ forth.raised.settling
           (omega arith))
     ]
     in

@@ -17,6 +17,6 @@ returns c =
     record {
       raised = c.loop-k.invariant.0;
       relaxed = λ none.
-          relaxed_all c.args.t c.args.o c.loop-k.ways c.args.from_last _ c.loop-k.k
+          relaxed_all c.args.given.tables c.args.given.amounts c.loop-k.ways c.args.from_last _ c.loop-k.k
           (omega arith) (c.loop-k.invariant.2 none);
     }

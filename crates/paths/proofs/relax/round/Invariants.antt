@@ -5,7 +5,7 @@ use Rattle.paths.proofs.relax.round.Given as goal
 
 abbrev pub invariant-loop-k : goal.invariant-loop-k
 invariant-loop-k l =
-    Raised l.t l.o l.initial.ways l.rose l.ways
+    Raised l.given.tables l.given.amounts l.initial.ways l.rose l.ways
     × (l.rose ≤ 2 * l.k)
     × (l.rose ≡ 0 → (j : ℕ) → j < l.k →
-    Relaxed (market_given l.t) (outcome_given l.o) (worths l.ways) (fars l.ways) (turned l.from_last l.lines j))
+    Relaxed (market_given l.given.tables) (outcome_given l.given.amounts) (worths l.ways) (fars l.ways) (turned l.from_last l.lines j))

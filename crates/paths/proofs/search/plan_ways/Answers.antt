@@ -8,28 +8,23 @@ use Rattle.paths.proofs.Shown.{plan_shown}
 use Rattle.paths.proofs.search.plan_ways.Goals as goal
 
 pub look_at_buys-requires : goal.look_at_buys-requires
-look_at_buys-requires c =
-    record {
-      sound = c.requires.sound;
-      looked = nothing_looked _ _ _ _ c.requires.zones (c.fill.ensures.after (λ y same. same));
-    }
+look_at_buys-requires c = nothing_looked _ _ _ _ c.requires (c.fill.ensures.after (λ y same. same))
 
 pub settle-requires : goal.settle-requires
-settle-requires c =
-    record { sound = c.requires.sound; settling = settling_start _ _ c.requires.sound _ c.look_at_sells.ensures }
+settle-requires c = settling_start _ _ c.args.given.sound _ c.look_at_sells.ensures
 
 pub ways_out-requires-clause-takers : goal.ways_out-requires-clause-takers
 ways_out-requires-clause-takers c v below =
     ap (λ xs. at xs v) c.settle.ensures.bids.out
-    ∙ taker_known _ _ c.requires.sound _ _ c.look_at_sells.ensures.takers v below
+    ∙ taker_known _ _ c.args.given.sound _ _ c.look_at_sells.ensures.takers v below
 
 pub returns : goal.returns
 returns c =
-    let planned : Planned (market_given c.args.t) (outcome_given c.args.o) (plan_of c.ways_out.new.ways) =
-    planned_ways _ _ c.requires.sound _ _ _ (omega arith) c.look_at_sells.ensures c.settle.ensures.labels
+    let planned : Planned (market_given c.args.given.tables) (outcome_given c.args.given.amounts) (plan_of c.ways_out.new.ways) =
+    planned_ways _ _ c.args.given.sound _ _ _ (omega arith) c.look_at_sells.ensures c.settle.ensures.labels
     c.settle.ensures.bids c.ways_out.ensures.out c.ways_out.ensures.others
     in
     record {
       planned = planned;
-      shown = λ feasible. plan_shown _ _ _ c.requires.sound.tables.proper feasible planned;
+      shown = λ feasible. plan_shown _ _ _ c.args.given.sound.tables.proper feasible planned;
     }

@@ -30,7 +30,7 @@ loop-l-init c =
 
 pub zones-preserved-then-leads_onward : goal.zones-preserved-then-leads_onward
 zones-preserved-then-leads_onward c =
-    let t = c.args.t in
+    let t = c.args.given.tables in
     let before = c.loop-l.invariant in
     record {
       exits =
@@ -39,7 +39,7 @@ zones-preserved-then-leads_onward c =
           (omega (arith, length_bids_in t.buys.now, length_bids_in t.sells.now))
           before.exits (λ near. c.if-ways-v-eq0.false (sym (far_kept _ _ c.zones.v c.zones.invariant.others) ∙ near))
           before.none
-          (subst₂ (λ ws fs. onward (market_given t) (outcome_given c.args.o) ws fs c.zones.v c.loop-l.l ≡ true)
+          (subst₂ (λ ws fs. onward (market_given t) (outcome_given c.args.given.amounts) ws fs c.zones.v c.loop-l.l ≡ true)
           before.others.worth before.others.far (sym c.leads_onward.ensures ∙ c.if-leads_onward.true));
       others = keeps_out _ c.loop-l.ways c.zones.v _ before.others;
     }
@@ -51,14 +51,14 @@ loop-l-preserved c =
       exits = before.exits;
       none =
           first_past _ c.loop-l.l before.none
-          (subst₂ (λ ws fs. onward (market_given c.args.t) (outcome_given c.args.o) ws fs c.zones.v c.loop-l.l ≡ false)
+          (subst₂ (λ ws fs. onward (market_given c.args.given.tables) (outcome_given c.args.given.amounts) ws fs c.zones.v c.loop-l.l ≡ false)
           before.others.worth before.others.far (sym c.leads_onward.ensures ∙ c.if-leads_onward.false));
       others = before.others;
     }
 
 pub zones-preserved : goal.zones-preserved
 zones-preserved c =
-    let t = c.args.t in
+    let t = c.args.given.tables in
     let before = c.loop-l.invariant in
     record {
       exits =
@@ -74,6 +74,6 @@ returns c =
     record {
       out = λ v below.
           c.zones.invariant.exits.done v (omega arith)
-          ∙ sym (ap₂ (λ ws fs. out_no (market_given c.args.t) (outcome_given c.args.o) ws fs v) kept.worth kept.far);
+          ∙ sym (ap₂ (λ ws fs. out_no (market_given c.args.given.tables) (outcome_given c.args.given.amounts) ws fs v) kept.worth kept.far);
       others = kept;
     }

@@ -5,6 +5,6 @@ use Rattle.paths.proofs.takers.look_at_buys.Goals as goal
 pub look-requires : goal.look-requires
 look-requires c =
     record {
-      looks = buy_looks _ _ c.requires.sound _ _ _ c.loop-k-test.true c.row_in-bid.ensures refl;
+      looks = buy_looks _ _ c.args.given.sound _ _ _ c.loop-k-test.true c.row_in-bid.ensures refl;
       looked = c.loop-k.invariant;
     }
