@@ -14,7 +14,8 @@ use crate::steps::{carried_by, end_of, step_in, step_out};
 use network::{Amounts, Item, Step, Tables};
 use paths::{Way, way_at};
 
-// An item carries so much.
+// An item carries so much. The lists of amounts are three parameters, here and above: of a struct that lends them each function
+// would have to say besides that its fields still lend the same.
 #[tactic(auto, using(network::proofs::Weighed::put_set))]
 fn carry(item: Item, amount: u64, bought: &mut [u64], sold: &mut [u64], flow: &mut [u64])
     requires { Placed bought.old sold.old flow.old item }

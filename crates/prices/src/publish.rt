@@ -1,30 +1,13 @@
 // What is published of an hour, as text.
-ghost use Rattle.std.specs.Prelude.{◌≡◌, IfOk, vec_len};
-
 use crate::clearing::clear_hour;
 use hour::{Hour, Price, refusal};
 use network::{Amounts, Tables, worth_of};
 use paths::Way;
 use std::alloc::{AllocError, Global};
 
-fn zeros(heap: Global, n: usize) -> Result<Vec<u64>, AllocError>
-    ensures { IfOk result (λ v. vec_len v ≡ n) }
-{
-    vec![in heap; 0u64; n]
-}
-
-fn no_ways(heap: Global, n: usize) -> Result<Vec<Way>, AllocError>
-    ensures { IfOk result (λ v. vec_len v ≡ n) }
-{
-    vec![in heap; Way::NONE; n]
-}
-
 // The worth of an outcome that was cleared; it is worth at least as much as nothing, so what is spent is not above what is gained.
 fn worth_row(text: &mut String, t: Tables, o: Amounts, pushes: u64) -> Result<(), AllocError> {
-    let worth = match worth_of(t, o) {
-        Some(worth) => worth.gained.saturating_sub(worth.spent),
-        None => 0,
-    };
+    let worth = worth_of(t, o).map_or(0, |worth| worth.gained.saturating_sub(worth.spent));
     writeln!(text, "worth {worth} pushes {pushes}")
 }
 
@@ -56,13 +39,13 @@ fn outcome_rows(text: &mut String, ways: &[Way], o: Amounts) -> Result<(), Alloc
 }
 
 fn cleared_text(heap: Global, hour: Hour<'_>) -> Result<String, AllocError> {
-    let mut buys = zeros(heap, 3 * hour.buys())?;
-    let mut sells = zeros(heap, 3 * hour.sells())?;
-    let mut lines = zeros(heap, 3 * hour.lines())?;
-    let mut bought = zeros(heap, hour.buys())?;
-    let mut sold = zeros(heap, hour.sells())?;
-    let mut flow = zeros(heap, hour.lines())?;
-    let mut ways = no_ways(heap, hour.zones() as usize)?;
+    let mut buys = vec![in heap; 0u64; 3 * hour.buys()]?;
+    let mut sells = vec![in heap; 0u64; 3 * hour.sells()]?;
+    let mut lines = vec![in heap; 0u64; 3 * hour.lines()]?;
+    let mut bought = vec![in heap; 0u64; hour.buys()]?;
+    let mut sold = vec![in heap; 0u64; hour.sells()]?;
+    let mut flow = vec![in heap; 0u64; hour.lines()]?;
+    let mut ways = vec![in heap; Way::NONE; hour.zones() as usize]?;
     let pushes = clear_hour(
         hour,
         buys.as_mut_slice(),
