@@ -11,9 +11,9 @@ use Rattle.std.specs.List.{position, position_or_len}
 use Rattle.hour.proofs.First.{first_found, first_all, first_same, when_false}
 use Rattle.hour.specs.First.{when, first}
 use Rattle.hour.specs.Market.{at}
-use Rattle.paths.specs.Plan.{pays}
+use Rattle.paths.specs.Plan.{nearer, pays}
 use Rattle.paths.specs.Search.{KeepsBids, KeepsAllButOut}
-use Rattle.paths.specs.Ways.{no_way, way_at, way_pays, over_line, worths, fars, outs, asks, givers, plan_of}
+use Rattle.paths.specs.Ways.{no_way, way_at, way_pays, way_nearer, over_line, worths, fars, outs, asks, givers, plan_of}
 use Rattle.paths.specs.declared.ways.Way.{Way}
 
 module _ (ws : List Way) (v : ℕ) where
@@ -31,6 +31,9 @@ module _ (ws : List Way) (v : ℕ) where
 
   pub giver_is : at (givers ws) v ≡ (way_at ws v).giver
   giver_is = get_or-map (λ (w : Way). w.giver) ws v no_way
+
+pub nearer_is : (ws : List Way) (v w : ℕ) → nearer (worths ws) (fars ws) v w ≡ way_nearer (way_at ws v) (way_at ws w)
+nearer_is ws v w = rw (worth_is ws v, worth_is ws w, far_is ws v, far_is ws w)
 
 -- how many lines a way takes that was read from the slice
 pub far_read : (ws : List Way) (v : ℕ) (w : Way) → w ≡ way_at ws v → w.far ≡ at (fars ws) v

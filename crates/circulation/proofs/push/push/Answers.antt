@@ -1,10 +1,7 @@
 use Rattle.std.proofs.Common.{◌+◌, ◌-◌, arith}
 use Rattle.paths.proofs.Zones.{far_read}
-use Rattle.circulation.proofs.Walked.{walks_start, walks_all, walks_step, walks_more, walks_end}
+use Rattle.circulation.proofs.Walked.{walks_start, walks_step, walks_more, walks_end}
 use Rattle.circulation.proofs.push.push.Goals as goal
-
-pub loop-k-init : goal.loop-k-init
-loop-k-init c o walks = walks_all _ _ _ _ _ _ _ _ _ (omega arith) walks
 
 pub move_along-requires-in-loop-k : goal.move_along-requires-in-loop-k
 move_along-requires-in-loop-k c =

@@ -1,8 +1,8 @@
-use Rattle.std.proofs.Common.{◌+◌, ◌-◌, ◌∙◌, arith}
+use Rattle.std.proofs.Common.{◌+◌, ◌-◌, arith}
 use Rattle.paths.specs.Search.{market_given, outcome_given}
 use Rattle.paths.specs.Ways.{plan_of}
 use Rattle.paths.proofs.Zones.{far_read}
-use Rattle.circulation.proofs.OnTables.{narrows_start, narrows_more, narrows_end}
+use Rattle.circulation.proofs.OnTables.{narrows_start, narrows_more}
 use Rattle.circulation.proofs.sweep.narrowest.Goals as goal
 
 pub loop-k-init : goal.loop-k-init
@@ -20,11 +20,3 @@ loop-k-preserved c =
     c.loop-k.least (lines - k) c.loop-k.zone (lines - (k + 1)) _ _ _ _
     c.loop-k.invariant (omega arith)
     c.step_out-step.ensures c.room_for.ensures c.min-least.ensures c.end_of-zone.ensures
-
-pub returns : goal.returns
-returns c =
-    let lines = c.way_at-lines.result.far in
-    c.min.ensures
-    ∙ narrows_end (market_given c.args.t) (outcome_given c.args.o) (plan_of c.args.ways.now) c.args.v
-    c.loop-k.least (lines - c.loop-k.k) c.loop-k.zone _ _
-    c.loop-k.invariant (omega arith) c.step_out.ensures c.room_for-2.ensures

@@ -5,16 +5,6 @@ use Rattle.network.specs.Tables.{bids_in}
 use Rattle.network.proofs.Rows.{worth_more, worth_part, worth_all}
 use Rattle.network.proofs.tables.bids_worth.Goals as goal
 
-pub loop-k-preserved : goal.loop-k-preserved
-loop-k-preserved c =
-    let bids = bids_in c.args.bids.now in
-    let amounts = c.args.amounts.now in
-    omega (
-      arith,
-      worth_more bids amounts c.loop-k.k _ _ c.row_in-bid.ensures c.number_at.ensures,
-      c.in_ok-sum.ensures,
-    )
-
 pub returns-in_err-sum : goal.returns-in_err-sum
 returns-in_err-sum c =
     let bids = bids_in c.args.bids.now in

@@ -1,13 +1,10 @@
-use Rattle.std.proofs.Common.{◌≡◌, true, false, sym, refl, ◌∙◌, subst₂, ap₂, arith}
+use Rattle.std.proofs.Common.{◌≡◌, true, false, sym, refl, ◌∙◌, subst₂, arith}
 use Rattle.network.proofs.Rows.{length_bids_in, length_lines_in}
-use Rattle.paths.specs.Plan.{onward, out_no}
+use Rattle.paths.specs.Plan.{onward}
 use Rattle.paths.specs.Search.{market_given, outcome_given}
-use Rattle.paths.proofs.Exits.{first_past, exits_start, exits_own, ways_open, ways_found, exits_none}
-use Rattle.paths.proofs.Zones.{keeps_all, keeps_out, far_kept}
+use Rattle.paths.proofs.Exits.{first_past, exits_own, ways_open, ways_found, exits_none}
+use Rattle.paths.proofs.Zones.{keeps_out, far_kept}
 use Rattle.paths.proofs.search.ways_out.Goals as goal
-
-pub zones-init : goal.zones-init
-zones-init c = record { exits = exits_start _ _ _ _ _ c.requires.takers; others = keeps_all _ }
 
 pub zones-preserved-then-ways-v-eq0 : goal.zones-preserved-then-ways-v-eq0
 zones-preserved-then-ways-v-eq0 c =
@@ -66,14 +63,4 @@ zones-preserved c =
           (omega (arith, length_lines_in t.lines.now)) before.exits
           (λ near. c.if-ways-v-eq0.false (sym (far_kept _ _ c.zones.v c.zones.invariant.others) ∙ near)) before.none;
       others = before.others;
-    }
-
-pub returns : goal.returns
-returns c =
-    let kept = c.zones.invariant.others in
-    record {
-      out = λ v below.
-          c.zones.invariant.exits.done v (omega arith)
-          ∙ sym (ap₂ (λ ws fs. out_no (market_given c.args.given.tables) (outcome_given c.args.given.amounts) ws fs v) kept.worth kept.far);
-      others = kept;
     }
