@@ -49,7 +49,8 @@ pub fn hour_to_check<'a>(
     Ok(Hour::of(bytes))
 }
 
-// The hour whose prices are ranked, where so many numbers are lent for marks.
+// The hour whose prices are ranked, where so many numbers are lent for marks. Apart from the hour that is checked: one function for
+// both would take what is lent as a closure, whose contract is longer than these bodies.
 pub fn hour_to_rank<'a>(
     bytes: &'a [u8],
     amounts: Amounts,

@@ -2,50 +2,34 @@
 ghost use Rattle.checker.specs.Promises.{AcceptedBest, PublishedAccepted, LowestFound, HouseAccepted, HouseLowest};
 ghost use Rattle.checker.specs.Promises.{OneLowness, ReadBack, HouseText};
 
-pub fn accepted_best_holds() -> u8
+pub fn accepted_best_holds()
     ensures { AcceptedBest }
-{
-    0
-}
+{}
 
-pub fn published_accepted_holds() -> u8
+pub fn published_accepted_holds()
     ensures { PublishedAccepted }
-{
-    0
-}
+{}
 
-pub fn lowest_found_holds() -> u8
+pub fn lowest_found_holds()
     ensures { LowestFound }
-{
-    0
-}
+{}
 
-pub fn one_lowness_holds() -> u8
+pub fn one_lowness_holds()
     ensures { OneLowness }
-{
-    0
-}
+{}
 
-pub fn house_accepted_holds() -> u8
+pub fn house_accepted_holds()
     ensures { HouseAccepted }
-{
-    0
-}
+{}
 
-pub fn house_lowest_holds() -> u8
+pub fn house_lowest_holds()
     ensures { HouseLowest }
-{
-    0
-}
+{}
 
-pub fn read_back_holds() -> u8
+pub fn read_back_holds()
     ensures { ReadBack }
-{
-    0
-}
+{}
 
-pub fn house_text_holds() -> u8
+pub fn house_text_holds()
     ensures { HouseText }
-{
-    0
-}
+{}
