@@ -42,7 +42,7 @@ use Rattle.checker.specs.declared.balance.Side.TheVariants.{Sold, Into, Bought, 
 abbrev pub outcome_given : Amounts → Outcome
 outcome_given o = outcome_in o.bought.now o.sold.now o.flow.now
 
-abbrev pub claimed : {A : Type 0} → (Market → Outcome → List ℕ → A) → Claim → A
+abbrev pub claimed {ℓ} : {A : Type ℓ} → (Market → Outcome → List ℕ → A) → Claim → A
 claimed f c = f (market_seen c.hour) (outcome_given c.amounts) c.prices.now
 
 abbrev pub content_test : ℕ → ℕ → ℕ → ℕ → Bool

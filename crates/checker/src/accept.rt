@@ -1,5 +1,5 @@
 // The first rule that a published result breaks.
-ghost use Rattle.std.specs.Prelude.{◌≡◌, ◌<◌, Ok};
+ghost use Rattle.std.specs.Prelude.{◌≡◌, ◌<◌, IfOk, Ok};
 ghost use Rattle.std.specs.Result.{result_err};
 ghost use Rattle.hour.specs.Market.{count_of};
 ghost use Rattle.hour.specs.Seen.{market_seen};
@@ -10,6 +10,7 @@ ghost use Rattle.checker.specs.Acceptance.{verdict_of, Stands, Exactly};
 
 use crate::claim::Claim;
 use crate::lent::hour_to_check;
+use crate::standing::Standing;
 use crate::verdict::{Broken, Objection};
 use hour::Sort;
 use network::settled::content;
@@ -35,7 +36,7 @@ fn check_item(
     Ok(())
 }
 
-impl Claim<'_> {
+impl<'a> Claim<'a> {
     // A unit costs a buyer the zone's price and brings the bid's.
     fn check_buy(self, k: usize) -> Result<(), Broken>
         requires { k < self.hour.buys }
@@ -109,14 +110,16 @@ impl Claim<'_> {
         Ok(())
     }
 
-    // The first rule broken: buys, sells, lines, zones, each by number.
-    pub fn check(self) -> Result<(), Broken>
-        ensures { result_err result ≡ claimed broken_of self.entry }
+    // That it breaks no rule, or the first rule broken: buys, sells, lines, zones, each by number.
+    pub fn check(self) -> Result<Standing<'a>, Broken>
+        ensures broken { result_err result ≡ claimed broken_of self.entry }
+        ensures same { IfOk result (λ standing. standing.claim ≡ self.entry) }
     {
         self.check_sort(Sort::Buy)?;
         self.check_sort(Sort::Sell)?;
         self.check_sort(Sort::Line)?;
-        self.check_zones()
+        self.check_zones()?;
+        Ok(Standing { claim: self })
     }
 }
 

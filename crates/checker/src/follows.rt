@@ -2,7 +2,6 @@
 ghost use Rattle.std.specs.Prelude.{◌≡◌, ◌+◌, ◌^◌, ◌<◌, ◌≤◌, Some};
 ghost use Rattle.std.specs.Result.{result_err};
 ghost use Rattle.hour.specs.Seen.{market_seen};
-ghost use Rattle.hour.specs.Market.{Feasible};
 ghost use Rattle.hour.specs.Rules.{max_amount};
 ghost use Rattle.network.specs.Network.{Among};
 ghost use Rattle.ledger.specs.Money.{owed, money, item, count};
@@ -12,6 +11,7 @@ ghost use Rattle.checker.specs.Follows.{money_at, figure_wrong, row_wrong, rows_
 use crate::claim::Claim;
 use crate::form::Counts;
 use crate::reports::Wrong;
+use crate::standing::Standing;
 use hour::{Hour, Sort};
 use ledger::{amount_of, item_of, price_above, price_below, worth_in};
 use network::Item;
@@ -50,44 +50,50 @@ fn check_figure(
     })
 }
 
-impl Claim<'_> {
+impl Standing<'_> {
     fn money_due(self, item: Item) -> i128
-        requires among { Among (market_seen self.hour) item }
-        requires feasible { Feasible (market_seen self.hour) (outcome_given self.amounts) }
-        ensures { result ≡ claimed money self.entry item }
+        requires { Among (market_seen self.claim.hour) item }
+        ensures { result ≡ claimed money self.entry.claim item }
     {
+        let Claim {
+            hour,
+            amounts,
+            prices,
+        } = self.claim;
         owed(
-            price_above(self.hour, self.prices, item),
-            price_below(self.hour, self.prices, item),
-            amount_of(self.amounts, item),
+            price_above(hour, prices, item),
+            price_below(hour, prices, item),
+            amount_of(amounts, item),
         )
     }
 
     pub fn check_worth(self, written: i128) -> Result<(), Wrong>
-        requires { Feasible (market_seen self.hour) (outcome_given self.amounts) }
         ensures { result_err result
-            ≡ worth_wrong (market_seen self.entry.hour) (outcome_given self.entry.amounts) written }
+            ≡ worth_wrong (market_seen self.entry.claim.hour) (outcome_given self.entry.claim.amounts) written }
     {
-        check_figure(1, None, worth_in(self.hour, self.amounts) as i128, written)
+        check_figure(
+            1,
+            None,
+            worth_in(self.claim.hour, self.claim.amounts) as i128,
+            written,
+        )
     }
 
     // The money of the k-th of a sort.
     fn check_money(self, sort: Sort, moneys: &[i128], k: usize) -> Result<(), Wrong>
-        requires among { k < count (market_seen self.hour) sort }
-        requires feasible { Feasible (market_seen self.hour) (outcome_given self.amounts) }
-        ensures { result_err result ≡ claimed row_wrong self.entry sort moneys.now k }
+        requires { k < count (market_seen self.claim.hour) sort }
+        ensures { result_err result ≡ claimed row_wrong self.entry.claim sort moneys.now k }
     {
-        let line = Counts::from(self.hour).first_line(sort) + k;
+        let line = Counts::from(self.claim.hour).first_line(sort) + k;
         let follows = self.money_due(item_of(sort, k));
         check_figure(line, Some(sort), follows, money_at(moneys, k))
     }
 
     // The first row of a sort whose money does not follow.
     pub fn check_moneys(self, sort: Sort, moneys: &[i128]) -> Result<(), Wrong>
-        requires { Feasible (market_seen self.hour) (outcome_given self.amounts) }
-        ensures { result_err result ≡ claimed rows_wrong self.entry sort moneys.now }
+        ensures { result_err result ≡ claimed rows_wrong self.entry.claim sort moneys.now }
     {
-        for k in 0..self.hour.count(sort) {
+        for k in 0..self.claim.hour.count(sort) {
             self.check_money(sort, moneys, k)?;
         }
         Ok(())

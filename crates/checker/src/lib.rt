@@ -13,6 +13,7 @@ pub mod promises;
 mod ranking;
 mod reading;
 mod reports;
+mod standing;
 mod telling;
 mod verdict;
 

@@ -2,7 +2,7 @@
 ghost use Rattle.std.specs.Prelude.{◌≡◌, ℕ, ◌<◌, ◌≤◌, length};
 ghost use Rattle.hour.specs.Seen.{market_seen};
 ghost use Rattle.hour.specs.Market.{at};
-ghost use Rattle.checker.specs.Acceptance.{outcome_given};
+ghost use Rattle.checker.specs.Acceptance.{claimed};
 ghost use Rattle.checker.specs.Marks.{Marks, unmarked};
 ghost use Rattle.checker.specs.Seeking.{Wiped};
 
@@ -22,9 +22,7 @@ impl Claim<'_> {
     fn mark_bare(self, marks: &mut [u64])
         requires enough { self.hour.zones ≤ length marks.old }
         requires bare { (z : ℕ) → z < self.hour.zones → at marks.old z ≡ 0 }
-        ensures { Marks
-            (market_seen self.entry.hour) (outcome_given self.entry.amounts) self.entry.prices.now
-            marks.old marks.new }
+        ensures { claimed Marks self.entry marks.old marks.new }
     {
         while let Some(z) = self.next_held(marks) {
             marks[z] = 1;
@@ -33,9 +31,7 @@ impl Claim<'_> {
 
     fn mark_held(self, marks: &mut [u64])
         requires { self.hour.zones ≤ length marks.old }
-        ensures { Marks
-            (market_seen self.entry.hour) (outcome_given self.entry.amounts) self.entry.prices.now
-            marks.old marks.new }
+        ensures { claimed Marks self.entry marks.old marks.new }
     {
         wipe(marks, self.hour.zones() as usize);
         self.mark_bare(marks);
@@ -45,9 +41,7 @@ impl Claim<'_> {
     pub fn find_lower(self, marks: &mut [u64]) -> Option<usize>
         requires { self.hour.zones ≤ length marks.old }
         ensures value { result ≡ unmarked (market_seen self.entry.hour) marks.new }
-        ensures marked { Marks
-            (market_seen self.entry.hour) (outcome_given self.entry.amounts) self.entry.prices.now
-            marks.old marks.new }
+        ensures marked { claimed Marks self.entry marks.old marks.new }
     {
         self.mark_held(marks);
         (0..self.hour.zones() as usize).find(|z| number_at(marks, *z) == 0)

@@ -2,7 +2,7 @@
 ghost use Rattle.std.specs.Prelude.{◌≡◌, ℕ, ◌≤◌, length, None, Some, Ok};
 ghost use Rattle.hour.specs.Seen.{market_seen};
 ghost use Rattle.network.specs.Tables.{outcome_in};
-ghost use Rattle.checker.specs.Acceptance.{outcome_given, claimed, broken_of, unless, Exactly};
+ghost use Rattle.checker.specs.Acceptance.{claimed, broken_of, unless, Exactly};
 ghost use Rattle.checker.specs.Marks.{unmarked, lowness_of, Left, LowerFirst, LowestAll};
 ghost use Rattle.checker.specs.Seeking.{LeftIn};
 
@@ -17,9 +17,7 @@ impl Claim<'_> {
         requires { self.hour.zones ≤ length marks.old }
         ensures answer { result
             ≡ unless (claimed broken_of self.entry) (unmarked (market_seen self.entry.hour) marks.new) }
-        ensures left { LeftIn
-            (market_seen self.entry.hour) (outcome_given self.entry.amounts) self.entry.prices.now
-            marks.old marks.new }
+        ensures left { claimed LeftIn self.entry marks.old marks.new }
     {
         self.check()?;
         Ok(self.find_lower(marks))

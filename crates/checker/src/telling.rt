@@ -1,9 +1,8 @@
 // What is said of a text that was published for an hour.
-ghost use Rattle.std.specs.Prelude.{◌≡◌, ◌≤◌, length, IfOk, None};
+ghost use Rattle.std.specs.Prelude.{◌≡◌, IfOk};
 ghost use Rattle.std.specs.Result.{result_err};
 ghost use Rattle.hour.specs.Seen.{market_seen};
-ghost use Rattle.hour.specs.Market.{Feasible};
-ghost use Rattle.checker.specs.Acceptance.{outcome_given, claimed, broken_of};
+ghost use Rattle.checker.specs.Acceptance.{claimed};
 ghost use Rattle.checker.specs.Follows.{wrong_in};
 ghost use Rattle.checker.specs.Form.{said_seen};
 ghost use Rattle.checker.specs.Telling.{AcceptedWith, RowsAs, SaidAs, Reports};
@@ -11,15 +10,15 @@ ghost use Rattle.checker.specs.Telling.{AcceptedWith, RowsAs, SaidAs, Reports};
 use crate::claim::Claim;
 use crate::form::{Counts, Said, Stop, read_text};
 use crate::reports::{Report, Wrong};
+use crate::standing::Standing;
 use hour::{Hour, Sort};
 use network::Amounts;
 use std::alloc::{AllocError, Global};
 
-impl Claim<'_> {
+impl Standing<'_> {
     // The first row that does not follow: the worth, buys, sells, lines.
     fn check_rows(self, said: &Said<'_>) -> Result<(), Wrong>
-        requires { Feasible (market_seen self.hour) (outcome_given self.amounts) }
-        ensures { result_err result ≡ claimed wrong_in self.entry (said_seen said.now) }
+        ensures { result_err result ≡ claimed wrong_in self.entry.claim (said_seen said.now) }
     {
         self.check_worth(said.worth)?;
         self.check_moneys(Sort::Buy, said.buys.moneys.as_slice())?;
@@ -27,34 +26,29 @@ impl Claim<'_> {
         self.check_moneys(Sort::Line, said.lines.moneys.as_slice())
     }
 
-    // What is said of a result that breaks no rule and whose rows follow.
+    // What is said where all rows follow.
     fn accept(self, heap: Global) -> Result<Report, AllocError>
-        requires { claimed broken_of self ≡ None }
-        ensures { IfOk
-            result
-            (AcceptedWith
-            (market_seen self.entry.hour) (outcome_given self.entry.amounts) self.entry.prices.now) }
+        ensures { IfOk result (claimed AcceptedWith self.entry.claim) }
     {
-        let mut marks = vec![in heap; 0u64; self.hour.zones() as usize]?;
-        let lower = self.find_lower(marks.as_mut_slice());
+        let mut marks = vec![in heap; 0u64; self.claim.hour.zones() as usize]?;
+        let lower = self.claim.find_lower(marks.as_mut_slice());
         Ok(Report::Accepted { lower })
     }
+}
 
+impl Claim<'_> {
     // What is said of a result whose amounts and prices a text says, with its worth and the money of each row.
     fn judge(self, heap: Global, said: &Said<'_>) -> Result<Report, AllocError>
-        ensures { IfOk
-            result
-            (RowsAs
-            (market_seen self.entry.hour) (outcome_given self.entry.amounts) self.entry.prices.now
-            (said_seen said.now)) }
+        ensures { IfOk result (claimed RowsAs self.entry (said_seen said.now)) }
     {
-        if let Err(broken) = self.check() {
-            return Ok(Report::Broken(broken));
+        let standing = match self.check() {
+            Ok(standing) => standing,
+            Err(broken) => return Ok(Report::Broken(broken)),
+        };
+        match standing.check_rows(said) {
+            Ok(()) => standing.accept(heap),
+            Err(wrong) => Ok(Report::Wrong(wrong)),
         }
-        if let Err(wrong) = self.check_rows(said) {
-            return Ok(Report::Wrong(wrong));
-        }
-        self.accept(heap)
     }
 }
 
