@@ -1,5 +1,6 @@
 -- How the zones that are held up are found, one after the other. Assumes nothing: these are definitions.
 --
+--   marked f c              f of the market, the outcome, the prices and the marks of a claim with marks
 --   buy_test, sell_test     whether a bid holds the price of zone z
 --   level_test              whether a zone has a mark and the price of z
 --   out_test, in_test       whether a line joins z to a marked zone of the same price
@@ -14,9 +15,13 @@ use Rattle.hour.specs.First.{when, first}
 use Rattle.hour.specs.Market.{Market, Outcome, at, bid, line, count_of}
 use Rattle.hour.specs.declared.refusals.Sort.{Sort}
 use Rattle.hour.specs.declared.refusals.Sort.TheVariants as sorts
+use Rattle.checker.specs.declared.claim.Marked.{Marked}
 use Rattle.checker.specs.declared.verdict.Broken.{Broken}
-use Rattle.checker.specs.Acceptance.{broken_of}
+use Rattle.checker.specs.Acceptance.{claimed, broken_of}
 use Rattle.checker.specs.Marks.{Marks}
+
+abbrev pub marked : {A : Type 0} → (Market → Outcome → List ℕ → List ℕ → A) → Marked → A
+marked f c = claimed f c.claim c.marks.now
 
 abbrev pub buy_test : Market → Outcome → List ℕ → ℕ → ℕ → Bool
 buy_test m o ps z k =

@@ -9,3 +9,10 @@ pub struct Claim<'a> {
     pub amounts: Amounts<'a>,
     pub prices: &'a [u64],
 }
+
+// A claim with marks on some of its zones.
+#[derive(Clone, Copy)]
+pub struct Marked<'a> {
+    pub claim: Claim<'a>,
+    pub marks: &'a [u64],
+}

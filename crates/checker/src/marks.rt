@@ -6,7 +6,7 @@ ghost use Rattle.checker.specs.Acceptance.{claimed};
 ghost use Rattle.checker.specs.Marks.{Marks, unmarked};
 ghost use Rattle.checker.specs.Seeking.{Wiped};
 
-use crate::claim::Claim;
+use crate::claim::{Claim, Marked};
 use network::number_at;
 
 // The first n numbers at 0.
@@ -17,6 +17,7 @@ fn wipe(marks: &mut [u64], n: usize)
     marks[..n].fill(0);
 }
 
+// That there is a mark for each zone is asked by each of these: a value that held it would hold marks that are lent to be changed.
 impl Claim<'_> {
     // Marks that are all 0 become those of the zones that are held up, one after the other.
     fn mark_bare(self, marks: &mut [u64])
@@ -24,7 +25,7 @@ impl Claim<'_> {
         requires bare { (z : ℕ) → z < self.hour.zones → at marks.old z ≡ 0 }
         ensures { claimed Marks self.entry marks.old marks.new }
     {
-        while let Some(z) = self.next_held(marks) {
+        while let Some(z) = (Marked { claim: self, marks }).next_held() {
             marks[z] = 1;
         }
     }
