@@ -1,7 +1,7 @@
 -- Tables that break no rule are those of a market that keeps them, with slices that are long enough. Assumes nothing.
 use Rattle.std.proofs.Common.{◌≡◌, ℕ, ◌+◌, ◌*◌, ◌<◌, ◌≤◌, eqb, List, length, Some, None, Option, sym, ap, ◌∙◌, pos_of_ne-zero, arith}
 use Rattle.std.proofs.lemmas.Bool.{eqb-false, ltb-false, or_parts}
-use Rattle.hour.proofs.First.{first_some, else_none_left, else_none_right, when_none}
+use Rattle.hour.proofs.First.{else_none_left, else_none_right, when_none}
 use Rattle.hour.proofs.Kept.{bids_kept, lines_kept}
 use Rattle.hour.specs.First.{first, ◌else◌}
 use Rattle.hour.specs.Market.{Market, bid, line}
@@ -22,36 +22,6 @@ pub items_counted :
     else all_lines_fault z (items buys + items sells) (lines_in lines))
     ≡ item_fault (market_in z buys sells lines)
 items_counted z buys sells lines = sym (rw (length_bids_in buys, length_bids_in sells))
-
--- a table's first fault, and none
-module _ (z before k : ℕ) (t : List ℕ) where
-  pub bids_found :
-      (b : Bid) (r : Option Refusal) (x : Refusal) → k < items t →
-      first k (λ j. bid_fault z (bid_place (before + j)) (bid (bids_in t) j)) ≡ None → b ≡ bid (bids_in t) k →
-      r ≡ bid_fault z (bid_place (before + k)) b → r ≡ Some x → bids_fault z before (bids_in t) ≡ Some x
-  bids_found b r x below none same is found =
-      first_some _ k (length (bids_in t)) x (omega (arith, length_bids_in t)) none
-      (sym (is ∙ ap (bid_fault z (bid_place (before + k))) same) ∙ found)
-
-  pub bids_sound :
-      items t ≤ k → k ≤ items t → first k (λ j. bid_fault z (bid_place (before + j)) (bid (bids_in t) j)) ≡ None →
-      None ≡ bids_fault z before (bids_in t)
-  bids_sound past within none =
-      let all : length (bids_in t) ≡ k = omega (arith, length_bids_in t) in rw all (sym none)
-
-  pub lines_found :
-      (l : Line) (r : Option Refusal) (x : Refusal) → k < items t →
-      first k (λ j. line_fault z (line_place before j) (line (lines_in t) j)) ≡ None → l ≡ line (lines_in t) k →
-      r ≡ line_fault z (line_place before k) l → r ≡ Some x → all_lines_fault z before (lines_in t) ≡ Some x
-  lines_found l r x below none same is found =
-      first_some _ k (length (lines_in t)) x (omega (arith, length_lines_in t)) none
-      (sym (is ∙ ap (line_fault z (line_place before k)) same) ∙ found)
-
-  pub lines_sound :
-      items t ≤ k → k ≤ items t → first k (λ j. line_fault z (line_place before j) (line (lines_in t) j)) ≡ None →
-      None ≡ all_lines_fault z before (lines_in t)
-  lines_sound past within none =
-      let all : length (lines_in t) ≡ k = omega (arith, length_lines_in t) in rw all (sym none)
 
 -- what counts and items that break no rule say of a market
 pub rules_kept :

@@ -1,15 +1,16 @@
 // The entry on tables: whatever they hold, they are cleared or refused.
-ghost use Rattle.std.specs.Prelude.{◌≡◌, ◌+◌, ◌*◌, ◌≤◌, length};
+ghost use Rattle.std.specs.Prelude.{◌≡◌, ◌+◌, ◌*◌, ◌^◌, ◌<◌, ◌≤◌, length};
 ghost use Rattle.std.specs.Result.{result_err};
-ghost use Rattle.hour.specs.Rules.{bids_fault, all_lines_fault, item_fault};
-ghost use Rattle.network.specs.Tables.{items, bids_in, lines_in, market_in};
+ghost use Rattle.hour.specs.First.{first};
+ghost use Rattle.hour.specs.Rules.{item_fault};
+ghost use Rattle.network.specs.Tables.{items, rows_in, nth_row, bids_in, lines_in, market_in};
 ghost use Rattle.paths.specs.Search.{market_given};
 ghost use Rattle.prices.specs.Ended.{FoundIn, PromisedIn, Left, Wiped, ragged_fault, layout_fault};
 ghost use Rattle.prices.specs.Ended.{lengths, slices_fault, tables_fault, Small};
 
 use crate::tables::clear_tables;
-use hour::{Lengths, Refusal, check_bid, check_counts, check_lent, check_line, check_results};
-use network::{Tables, row_in};
+use hour::{Bid, Entry, Lengths, Line, Refusal, check_counts, check_lent, check_results};
+use network::{Row, Tables, row_in};
 
 // A table has three numbers for each item.
 fn check_table(table: &[u64]) -> Result<(), Refusal>
@@ -21,24 +22,13 @@ fn check_table(table: &[u64]) -> Result<(), Refusal>
     Ok(())
 }
 
-// The first rule that one of a table's bids breaks, which stand behind `before` others in the written hour.
-fn check_bids(zones: u64, before: usize, table: &[u64]) -> Result<(), Refusal>
-    requires { before + items table.now ≤ 2000 }
-    ensures { result_err result ≡ bids_fault zones before (bids_in table.now) }
+// The first rule that one of a table's rows breaks, behind so many bids in the written hour.
+fn check_each<E: Entry + Row>(zones: u64, bids: usize, table: &[u64]) -> Result<(), Refusal>
+    requires { E.place bids (items table.now) < 2 ^ 64 }
+    ensures { result_err result ≡ first (length (rows_in E.made table.now)) (λ k. E.fault zones (E.place bids k) (nth_row E.made table.now k)) }
 {
     for k in 0..table.len() / 3 {
-        check_bid(zones, 7 + 7 * (before + k), row_in(table, k))?;
-    }
-    Ok(())
-}
-
-// The first rule that one of a table's lines breaks, which stand behind so many bids.
-fn check_all_lines(zones: u64, bids: usize, table: &[u64]) -> Result<(), Refusal>
-    requires { bids + items table.now ≤ 3000 }
-    ensures { result_err result ≡ all_lines_fault zones bids (lines_in table.now) }
-{
-    for k in 0..table.len() / 3 {
-        check_line(zones, 7 + 7 * bids + 5 * k, row_in(table, k))?;
+        row_in::<E>(table, k).check(zones, E::place(bids, k))?;
     }
     Ok(())
 }
@@ -81,9 +71,9 @@ fn check_items(t: Tables) -> Result<(), Refusal>
 {
     let buys = t.buys.len() / 3;
     let sells = t.sells.len() / 3;
-    check_bids(t.zones, 0, t.buys)?;
-    check_bids(t.zones, buys, t.sells)?;
-    check_all_lines(t.zones, buys + sells, t.lines)
+    check_each::<Bid>(t.zones, 0, t.buys)?;
+    check_each::<Bid>(t.zones, buys, t.sells)?;
+    check_each::<Line>(t.zones, buys + sells, t.lines)
 }
 
 // The first rule that tables and lent slices break.

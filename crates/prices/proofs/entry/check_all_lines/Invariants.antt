@@ -1,9 +1,0 @@
-use Rattle.std.proofs.Common.{◌≡◌, None}
-use Rattle.hour.specs.First.{first}
-use Rattle.hour.specs.Market.{line}
-use Rattle.hour.specs.Rules.{line_fault, line_place}
-use Rattle.network.specs.Tables.{lines_in}
-use Rattle.prices.proofs.entry.check_all_lines.Given as goal
-
-abbrev pub invariant-loop-k : goal.invariant-loop-k
-invariant-loop-k l = first l.k (λ k. line_fault l.zones (line_place l.bids k) (line (lines_in l.table) k)) ≡ None
