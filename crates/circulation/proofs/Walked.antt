@@ -15,7 +15,8 @@ use Rattle.network.specs.declared.arcs.Step.TheVariants.{Forward}
 use Rattle.network.specs.declared.tables.Tables.{Tables}
 use Rattle.paths.specs.Bids.{item_no, giving}
 use Rattle.paths.specs.Plan.{Plan, out_step, way_out, closed_way}
-use Rattle.paths.specs.Search.{market_given, Spaced}
+use Rattle.network.specs.Given.{market_given}
+use Rattle.paths.specs.Search.{Spaced}
 use Rattle.circulation.specs.Given.{Placed}
 
 pub placed :

@@ -5,12 +5,13 @@ ghost use Rattle.network.specs.Network.{carried};
 ghost use Rattle.network.specs.Tables.{outcome_in};
 ghost use Rattle.network.specs.Ways.{Fits, Once, carry, moved, pushed};
 ghost use Rattle.paths.specs.Plan.{closed_way};
-ghost use Rattle.paths.specs.Search.{market_given, Bounded, Spaced};
+ghost use Rattle.network.specs.Given.{market_given};
+ghost use Rattle.paths.specs.Search.{Bounded, Spaced};
 ghost use Rattle.paths.specs.Ways.{plan_of};
 ghost use Rattle.circulation.specs.Given.{Placed};
 ghost use Rattle.std.specs.List.{AllByRecursion};
 
-use crate::steps::{carried_by, end_of, step_in, step_out};
+use crate::steps::{end_of, step_in, step_out};
 use network::{Amounts, Item, Step, Tables};
 use paths::{Way, way_at};
 
@@ -42,8 +43,8 @@ fn move_along(t: Tables, step: Step, d: u64, bought: &mut [u64], sold: &mut [u64
         flow: &*flow,
     };
     match step {
-        Step::Forward(item) => carry(item, carried_by(o, item) + d, bought, sold, flow),
-        Step::Backward(item) => carry(item, carried_by(o, item) - d, bought, sold, flow),
+        Step::Forward(item) => carry(item, o.of(item) + d, bought, sold, flow),
+        Step::Backward(item) => carry(item, o.of(item) - d, bought, sold, flow),
     }
 }
 

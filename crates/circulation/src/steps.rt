@@ -1,15 +1,15 @@
 // Steps along items, on tables: which step a zone's way names, where it ends, and how much room it has.
 ghost use Rattle.std.specs.Prelude.{◌≡◌, ◌-◌};
 ghost use Rattle.hour.specs.Market.{at};
-ghost use Rattle.network.specs.Network.{capacity, carried};
+ghost use Rattle.network.specs.Network.{capacity};
 ghost use Rattle.network.specs.Ways.{room, finish};
 ghost use Rattle.paths.specs.Bids.{item_no, giving};
 ghost use Rattle.paths.specs.Plan.{out_step};
-ghost use Rattle.paths.specs.Search.{market_given, outcome_given};
+ghost use Rattle.network.specs.Given.{market_given, outcome_given};
 ghost use Rattle.paths.specs.Ways.{plan_of, givers};
 
 use hour::{Bid, Line};
-use network::{Amounts, Item, Step, Tables, item_at, number_at, row_at};
+use network::{Amounts, Item, Step, Tables, item_at, row_at};
 use paths::{Way, way_at};
 
 // The item that a way has as one more than its number.
@@ -59,23 +59,13 @@ fn capacity_of(t: Tables, item: Item) -> u64
     }
 }
 
-pub fn carried_by(o: Amounts, item: Item) -> u64
-    ensures { result ≡ carried (outcome_given o.entry) item }
-{
-    match item {
-        Item::Buy(k) => number_at(o.bought, k),
-        Item::Sell(k) => number_at(o.sold, k),
-        Item::Line(l) => number_at(o.flow, l),
-    }
-}
-
 // How much more can go along a step.
 pub fn room_for(t: Tables, o: Amounts, step: Step) -> u64
     ensures { result ≡ room (market_given t.entry) (outcome_given o.entry) step }
 {
     match step {
-        Step::Forward(item) => capacity_of(t, item).saturating_sub(carried_by(o, item)),
-        Step::Backward(item) => carried_by(o, item),
+        Step::Forward(item) => capacity_of(t, item).saturating_sub(o.of(item)),
+        Step::Backward(item) => o.of(item),
     }
 }
 

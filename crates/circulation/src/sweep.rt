@@ -2,7 +2,8 @@
 ghost use Rattle.std.specs.Prelude.{◌≡◌, ℕ, ◌+◌, ◌≤◌, true};
 ghost use Rattle.network.specs.Tables.{outcome_in};
 ghost use Rattle.paths.specs.Plan.{Planned, pays, closed_way};
-ghost use Rattle.paths.specs.Search.{market_given, outcome_given, Bounded, Spaced};
+ghost use Rattle.network.specs.Given.{market_given, outcome_given};
+ghost use Rattle.paths.specs.Search.{Bounded, Spaced};
 ghost use Rattle.paths.specs.Ways.{plan_of};
 ghost use Rattle.circulation.specs.Given.{Ready};
 ghost use Rattle.circulation.specs.Sweep.{bottleneck, tally, asked, swept};

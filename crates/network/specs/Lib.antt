@@ -4,3 +4,4 @@ pub mod Prices
 pub mod Hours
 pub mod Promises
 pub mod Tables
+pub mod Given

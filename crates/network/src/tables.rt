@@ -3,7 +3,8 @@
 ghost use Rattle.std.specs.Prelude.{◌≡◌, ℕ, ◌+◌, ◌-◌, ◌*◌, ◌^◌, ◌<◌, ◌≤◌, MatchOption};
 ghost use Rattle.std.specs.Option.{SomeIff};
 ghost use Rattle.hour.specs.Market.{at, in_zone, into, out_of, worth};
-ghost use Rattle.network.specs.Network.{nth};
+ghost use Rattle.network.specs.Given.{outcome_given};
+ghost use Rattle.network.specs.Network.{carried, nth};
 ghost use Rattle.network.specs.Tables.{cell, items, nth_row, bids_in, lines_in, zone_total};
 
 use crate::arcs::Item;
@@ -35,6 +36,19 @@ pub fn number_at(xs: &[u64], k: usize) -> u64
     ensures { result ≡ at xs.now k }
 {
     xs.get(k).copied().unwrap_or(0)
+}
+
+impl Amounts<'_> {
+    // How much an item carries.
+    pub fn of(self, item: Item) -> u64
+        ensures { result ≡ carried (outcome_given self.entry) item }
+    {
+        match item {
+            Item::Buy(k) => number_at(self.bought, k),
+            Item::Sell(k) => number_at(self.sold, k),
+            Item::Line(k) => number_at(self.flow, k),
+        }
+    }
 }
 
 fn cell(table: &[u64], item: usize, column: usize) -> u64

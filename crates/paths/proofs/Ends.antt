@@ -14,7 +14,8 @@ use Rattle.network.specs.declared.arcs.Step.TheVariants.{Forward, Backward}
 use Rattle.network.specs.declared.tables.Amounts.{Amounts}
 use Rattle.network.specs.declared.tables.Tables.{Tables}
 use Rattle.paths.specs.Labels.{NoBetter, Over}
-use Rattle.paths.specs.Search.{market_given, outcome_given, Sound, RelaxedBy, Settling, Raised, top}
+use Rattle.network.specs.Given.{market_given, outcome_given}
+use Rattle.paths.specs.Search.{Sound, RelaxedBy, Settling, Raised, top}
 use Rattle.paths.specs.Ways.{way_at, way_better, over_line, worths, fars}
 use Rattle.paths.specs.declared.ways.Way.{Way}
 use Rattle.paths.proofs.Keys.{far_below}

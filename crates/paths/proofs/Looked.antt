@@ -13,7 +13,8 @@ use Rattle.network.specs.declared.arcs.Item.TheVariants.{Buy, Sell}
 use Rattle.network.specs.declared.tables.Amounts.{Amounts}
 use Rattle.network.specs.declared.tables.Tables.{Tables}
 use Rattle.paths.specs.Bids.{item_no, zone_of, price_of}
-use Rattle.paths.specs.Search.{market_given, outcome_given, Sound, Looks, Looked}
+use Rattle.network.specs.Given.{market_given, outcome_given}
+use Rattle.paths.specs.Search.{Sound, Looks, Looked}
 use Rattle.paths.specs.Ways.{no_way, way_at}
 use Rattle.paths.specs.declared.ways.Way.{Way}
 use Rattle.paths.proofs.Noted.{lower, takers_more, givers_more}

@@ -7,7 +7,8 @@ use Rattle.network.specs.declared.tables.Amounts.{Amounts}
 use Rattle.network.specs.declared.tables.Tables.{Tables}
 use Rattle.paths.specs.Keys.{Raises, left}
 use Rattle.paths.specs.Labels.{Over, NoBetter}
-use Rattle.paths.specs.Search.{market_given, outcome_given, rises, Reaching, Settling, Raised, top}
+use Rattle.network.specs.Given.{market_given, outcome_given}
+use Rattle.paths.specs.Search.{rises, Reaching, Settling, Raised, top}
 use Rattle.paths.specs.Ways.{way_at, way_better, over_line, worths, fars}
 use Rattle.paths.specs.declared.ways.Way.{Way}
 use Rattle.paths.proofs.Keys.{left_falls}

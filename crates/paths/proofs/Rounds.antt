@@ -8,7 +8,8 @@ use Rattle.network.specs.declared.arcs.Step.TheVariants.{Forward, Backward}
 use Rattle.network.specs.declared.tables.Amounts.{Amounts}
 use Rattle.network.specs.declared.tables.Tables.{Tables}
 use Rattle.paths.specs.Labels.{BestLabels}
-use Rattle.paths.specs.Search.{market_given, outcome_given, RelaxedBy, Relaxed, Settling, Raised, turned}
+use Rattle.network.specs.Given.{market_given, outcome_given}
+use Rattle.paths.specs.Search.{RelaxedBy, Relaxed, Settling, Raised, turned}
 use Rattle.paths.specs.Ways.{worths, fars}
 use Rattle.paths.specs.declared.ways.Way.{Way}
 use Rattle.paths.proofs.Ends.{StepDone}

@@ -11,7 +11,8 @@ use Rattle.paths.specs.Best.{best, numbered}
 use Rattle.paths.specs.Bids.{bids, item_no, price_of, takes, gives, dearer, cheaper, taker, giver, worth_at, own}
 use Rattle.paths.specs.Labels.{BestLabels}
 use Rattle.paths.specs.Plan.{out_no, Planned}
-use Rattle.paths.specs.Search.{market_given, outcome_given, Sound, Takers, Givers, Looked, KeepsBids, KeepsAllButOut, Settling, top}
+use Rattle.network.specs.Given.{market_given, outcome_given}
+use Rattle.paths.specs.Search.{Sound, Takers, Givers, Looked, KeepsBids, KeepsAllButOut, Settling, top}
 use Rattle.paths.specs.Ways.{no_way, worths, fars, outs, asks, givers, plan_of}
 use Rattle.paths.specs.declared.ways.Way.{Way}
 use Rattle.paths.proofs.Bids.{buy_no, sell_no, own_limit}

@@ -1,6 +1,5 @@
 -- What holds while a search goes on. Assumes nothing: these are definitions.
 --
---   market_given t         the market that tables hold; outcome_given o the outcome that lists of amounts hold
 --   Bounded t              the tables are those of a proper market, small enough to count in 64 bits
 --   Spaced t ..            there is an amount for each bid and a flow for each line
 --   Sound t o              both
@@ -17,7 +16,8 @@
 use Rattle.std.specs.Prelude.{◌≡◌, ℕ, suc, ◌+◌, ◌-◌, ◌^◌, ◌<◌, ◌≤◌, Bool, cond, ◌&&◌, ◌||◌, List, length, ◌==◌, nat_lt}
 use Rattle.hour.specs.Market.{Market, Outcome, Proper, at, bid}
 use Rattle.hour.specs.declared.items.Bid.{Bid}
-use Rattle.network.specs.Tables.{items, market_in, outcome_in}
+use Rattle.network.specs.Given.{market_given, outcome_given}
+use Rattle.network.specs.Tables.{items}
 use Rattle.network.specs.Network.{Among, capacity}
 use Rattle.network.specs.declared.arcs.Item.{Item}
 use Rattle.network.specs.declared.arcs.Item.TheVariants.{Line}
@@ -31,12 +31,6 @@ use Rattle.paths.specs.Keys.{Keyed, left}
 use Rattle.paths.specs.Labels.{Along, Leads, NoBetter}
 use Rattle.paths.specs.Ways.{worths, fars, outs, asks, givers}
 use Rattle.paths.specs.declared.ways.Way.{Way}
-
-abbrev pub market_given : Tables → Market
-market_given t = market_in t.zones t.buys.now t.sells.now t.lines.now
-
-abbrev pub outcome_given : Amounts → Outcome
-outcome_given o = outcome_in o.bought.now o.sold.now o.flow.now
 
 -- tables of a proper market, small enough to count in 64 bits
 pub record Bounded (t : Tables) : Type 0 where

@@ -2,7 +2,8 @@
 ghost use Rattle.std.specs.Prelude.{◌≡◌, ℕ, ◌+◌, ◌^◌, ◌<◌, ◌≤◌, length, if◌then◌else◌, slice_set};
 ghost use Rattle.network.specs.Tables.{items};
 ghost use Rattle.paths.specs.Labels.{BestLabels};
-ghost use Rattle.paths.specs.Search.{market_given, outcome_given, Relaxed, Settling, Raised, KeepsBids, turned};
+ghost use Rattle.network.specs.Given.{market_given, outcome_given};
+ghost use Rattle.paths.specs.Search.{Relaxed, Settling, Raised, KeepsBids, turned};
 ghost use Rattle.paths.specs.Ways.{way_at, way_better, over_line, worths, fars};
 
 use crate::given::Given;

@@ -7,7 +7,8 @@ ghost use Rattle.paths.specs.Bids.{taker};
 ghost use Rattle.paths.specs.Labels.{BestLabels};
 ghost use Rattle.paths.specs.Plan.{onward, out_no, Planned, first_paying};
 ghost use Rattle.paths.specs.Promises.{Shown};
-ghost use Rattle.paths.specs.Search.{market_given, outcome_given, Sound, KeepsAllButOut};
+ghost use Rattle.network.specs.Given.{market_given, outcome_given};
+ghost use Rattle.paths.specs.Search.{Sound, KeepsAllButOut};
 ghost use Rattle.paths.specs.Ways.{way_pays, worths, fars, outs, plan_of};
 
 use crate::given::Given;

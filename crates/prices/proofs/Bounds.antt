@@ -15,7 +15,8 @@ use Rattle.network.specs.declared.arcs.Item.TheVariants.{Buy, Sell, Line}
 use Rattle.network.specs.declared.tables.Tables.{Tables}
 use Rattle.paths.proofs.Zones.{worth_is}
 use Rattle.paths.specs.Promises.{prices_of}
-use Rattle.paths.specs.Search.{market_given, Bounded}
+use Rattle.network.specs.Given.{market_given}
+use Rattle.paths.specs.Search.{Bounded}
 use Rattle.paths.specs.Ways.{way_at, worths, plan_of}
 use Rattle.paths.specs.declared.ways.Way.{Way}
 use Rattle.circulation.proofs.Few.{top_small}

@@ -3,7 +3,7 @@ ghost use Rattle.std.specs.Prelude.{◌≡◌, length, drop, replicate};
 ghost use Rattle.hour.specs.Rules.{KeepsRules};
 ghost use Rattle.network.specs.Tables.{items, outcome_in};
 ghost use Rattle.paths.specs.Promises.{prices_of};
-ghost use Rattle.paths.specs.Search.{market_given};
+ghost use Rattle.network.specs.Given.{market_given};
 ghost use Rattle.paths.specs.Ways.{plan_of};
 ghost use Rattle.prices.specs.Found.{Fitted, Roomy, Found, result_in, prices_in};
 

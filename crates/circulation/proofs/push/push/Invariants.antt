@@ -1,7 +1,7 @@
 use Rattle.std.proofs.Common.{◌-◌}
 use Rattle.hour.specs.Market.{Outcome}
 use Rattle.network.specs.Tables.{outcome_in}
-use Rattle.paths.specs.Search.{market_given}
+use Rattle.network.specs.Given.{market_given}
 use Rattle.paths.specs.Ways.{plan_of}
 use Rattle.circulation.proofs.Walked.{Walks}
 use Rattle.circulation.proofs.push.push.Given as goal

@@ -1,6 +1,6 @@
 use Rattle.std.proofs.Common.{◌-◌}
 use Rattle.network.specs.Tables.{outcome_in}
-use Rattle.paths.specs.Search.{market_given}
+use Rattle.network.specs.Given.{market_given}
 use Rattle.circulation.specs.Promises.{StepsSound, value, top}
 use Rattle.circulation.proofs.Runs.{RunsOn}
 use Rattle.circulation.proofs.run.circulate.Given as goal

@@ -1,5 +1,5 @@
 use Rattle.std.proofs.Common.{◌+◌, ◌-◌, arith}
-use Rattle.paths.specs.Search.{market_given, outcome_given}
+use Rattle.network.specs.Given.{market_given, outcome_given}
 use Rattle.paths.specs.Ways.{plan_of}
 use Rattle.paths.proofs.Zones.{far_read}
 use Rattle.circulation.proofs.OnTables.{narrows_start, narrows_more}

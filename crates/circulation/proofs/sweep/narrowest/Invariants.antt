@@ -1,5 +1,5 @@
 use Rattle.std.proofs.Common.{◌-◌}
-use Rattle.paths.specs.Search.{market_given, outcome_given}
+use Rattle.network.specs.Given.{market_given, outcome_given}
 use Rattle.paths.specs.Ways.{plan_of}
 use Rattle.circulation.proofs.OnTables.{Narrows}
 use Rattle.circulation.proofs.sweep.narrowest.Given as goal

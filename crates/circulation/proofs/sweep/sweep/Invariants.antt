@@ -1,6 +1,6 @@
 use Rattle.std.proofs.Common.{◌≡◌, ◌≤◌}
 use Rattle.network.specs.Tables.{outcome_in}
-use Rattle.paths.specs.Search.{market_given}
+use Rattle.network.specs.Given.{market_given}
 use Rattle.paths.specs.Ways.{plan_of}
 use Rattle.circulation.specs.Sweep.{swept, tally}
 use Rattle.circulation.proofs.sweep.sweep.Given as goal

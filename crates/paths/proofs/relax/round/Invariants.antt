@@ -1,5 +1,6 @@
 use Rattle.std.proofs.Common.{◌≡◌, ℕ, ◌*◌, ◌<◌, ◌≤◌}
-use Rattle.paths.specs.Search.{market_given, outcome_given, Raised, Relaxed, turned}
+use Rattle.network.specs.Given.{market_given, outcome_given}
+use Rattle.paths.specs.Search.{Raised, Relaxed, turned}
 use Rattle.paths.specs.Ways.{worths, fars}
 use Rattle.paths.proofs.relax.round.Given as goal
 

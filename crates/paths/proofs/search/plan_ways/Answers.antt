@@ -1,7 +1,7 @@
 use Rattle.std.proofs.Common.{ap, ◌∙◌, arith}
 use Rattle.hour.specs.Market.{at}
 use Rattle.paths.specs.Plan.{Planned}
-use Rattle.paths.specs.Search.{market_given, outcome_given}
+use Rattle.network.specs.Given.{market_given, outcome_given}
 use Rattle.paths.specs.Ways.{plan_of}
 use Rattle.paths.proofs.Searched.{nothing_looked, settling_start, taker_known, planned_ways}
 use Rattle.paths.proofs.Shown.{plan_shown}

@@ -1,7 +1,7 @@
 use Rattle.std.proofs.Common.{◌≡◌, true, false, sym, refl, ◌∙◌, subst₂, arith}
 use Rattle.network.proofs.Rows.{length_bids_in, length_lines_in}
 use Rattle.paths.specs.Plan.{onward}
-use Rattle.paths.specs.Search.{market_given, outcome_given}
+use Rattle.network.specs.Given.{market_given, outcome_given}
 use Rattle.paths.proofs.Exits.{first_past, exits_own, ways_open, ways_found, exits_none}
 use Rattle.paths.proofs.Zones.{keeps_out, far_kept}
 use Rattle.paths.proofs.search.ways_out.Goals as goal

@@ -1,7 +1,8 @@
 use Rattle.std.proofs.Common.{◌≡◌, None}
 use Rattle.hour.specs.First.{when, first}
 use Rattle.paths.specs.Plan.{onward}
-use Rattle.paths.specs.Search.{market_given, outcome_given, KeepsAllButOut}
+use Rattle.network.specs.Given.{market_given, outcome_given}
+use Rattle.paths.specs.Search.{KeepsAllButOut}
 use Rattle.paths.specs.Ways.{worths, fars, outs}
 use Rattle.paths.proofs.Exits.{ExitsTo, ExitsPast}
 use Rattle.paths.proofs.search.ways_out.Given as goal

@@ -1,7 +1,7 @@
 use Rattle.std.proofs.Common.{arith}
 use Rattle.circulation.proofs.Few.{top_small}
 use Rattle.network.proofs.Rows.{length_bids_in, length_lines_in}
-use Rattle.paths.specs.Search.{market_given}
+use Rattle.network.specs.Given.{market_given}
 use Rattle.prices.proofs.Bounds.{bounded_kept, filled_with, zeros_feasible, run_found}
 use Rattle.prices.proofs.Entries.{front_long}
 use Rattle.prices.proofs.tables.clear_fitted.Goals as goal

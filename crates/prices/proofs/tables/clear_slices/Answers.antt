@@ -1,6 +1,6 @@
 use Rattle.std.proofs.Common.{refl}
 use Rattle.network.proofs.Rows.{length_bids_in, length_lines_in}
-use Rattle.paths.specs.Search.{market_given}
+use Rattle.network.specs.Given.{market_given}
 use Rattle.prices.proofs.Entries.{lent_front, back_kept, fronts_fitted, found_returned}
 use Rattle.prices.proofs.tables.clear_slices.Goals as goal
 
