@@ -1,10 +1,10 @@
 -- An hour that keeps the rules fits the bounds of the search, and nothing can always be carried out. Assumes nothing.
-use Rattle.std.proofs.Common.{◌≡◌, ℕ, ◌+◌, ◌-◌, ◌^◌, ◌<◌, ◌≤◌, ◌≢◌, cond, eqb, List, length, set, replicate, sym, refl, ap, ◌∙◌, subst, ap₂, inl, inr, arith}
+use Rattle.std.proofs.Common.{◌≡◌, ℕ, ◌+◌, ◌-◌, ◌^◌, ◌<◌, ◌≤◌, cond, eqb, List, length, replicate, sym, refl, ap, ◌∙◌, subst, ap₂, inl, inr, arith}
 use mathlib.Core.Path.{subst⁻¹}
-use Rattle.std.proofs.lemmas.List.{length-replicate, get_or-replicate, ext_get_or, get_or_past, length-map, get_or-map, get_or-set_same, get_or-set_other}
+use Rattle.std.proofs.lemmas.List.{length-replicate, get_or-replicate, ext_get_or, get_or_past, length-map, get_or-map}
 use Rattle.std.proofs.lemmas.Bool.{cases_lt}
 use Rattle.hour.proofs.Total.{total_same, total_none}
-use Rattle.hour.specs.Market.{Market, Outcome, Proper, Feasible, at}
+use Rattle.hour.specs.Market.{Market, Proper, Feasible, at}
 use Rattle.hour.specs.Rules.{KeepsRules}
 use Rattle.hour.specs.Total.{tagged}
 use Rattle.network.proofs.Rows.{length_bids_in, length_lines_in}
@@ -21,26 +21,13 @@ use Rattle.paths.specs.Ways.{way_at, worths, plan_of}
 use Rattle.paths.specs.declared.ways.Way.{Way}
 use Rattle.circulation.proofs.Few.{top_small}
 use Rattle.circulation.specs.Promises.{top}
-use Rattle.circulation.specs.Run.{Run}
 use Rattle.prices.specs.Found.{Found, result_in, prices_in}
 use Rattle.prices.specs.Laid.{nothing}
 
 pub filled_with : (n : ℕ) (xs : List ℕ) (k : ℕ) → xs ≡ replicate n 0 → n ≡ k → xs ≡ replicate k 0
 filled_with n xs k zeros same = zeros ∙ ap (λ (j : ℕ). replicate j 0) same
 
--- the prices of the ways so far, and of one more
-pub prices_more :
-    (ways : List Way) (price : List ℕ) (v x : ℕ) → v < length price → x ≡ (way_at ways v).worth - 1 →
-    ((k : ℕ) → k < v → at price k ≡ (way_at ways k).worth - 1) →
-    (k : ℕ) → k < v + 1 → at (set price v x) k ≡ (way_at ways k).worth - 1
-prices_more ways price v x inside is before k below =
-    elim (cases_lt k v) [
-      | inl earlier ↦
-          let other : k ≢ v = omega arith in get_or-set_other price v k x 0 other ∙ before k earlier
-      | inr last ↦
-          let same : k ≡ v = omega arith in rw same (get_or-set_same price v x 0 inside ∙ is)
-    ]
-
+-- a price laid for each way
 pub prices_laid :
     (ways : List Way) (price : List ℕ) (n : ℕ) → length price ≡ length ways → length ways ≤ n →
     ((k : ℕ) → k < n → at price k ≡ (way_at ways k).worth - 1) → price ≡ prices_of (plan_of ways)
@@ -51,14 +38,6 @@ prices_laid ways price n long all each =
     each k (omega arith)
     ∙ sym (get_or-map (λ (c : ℕ). c - 1) (worths ways) k 0 0 (omega (arith, length-map ways (λ (w : Way). w.worth)))
     ∙ ap (λ (c : ℕ). c - 1) (worth_is ways k)))
-
--- a run that begins with zeros finds what is to be found
-pub run_found :
-    (m : Market) (bought sold flow : List ℕ) (n : ℕ) (p : Outcome) (ways : List Way) (ps : List ℕ) →
-    bought ≡ replicate (length m.buys) 0 → sold ≡ replicate (length m.sells) 0 → flow ≡ replicate (length m.lines) 0 →
-    Run m (outcome_in bought sold flow) n p (plan_of ways) → ps ≡ prices_of (plan_of ways) → Found m n p ps
-run_found m bought sold flow n p ways ps b s f run prices =
-    record { tables = plan_of ways; run = rw (b, s, f) at run; prices = prices }
 
 pub proper_kept : (m : Market) → KeepsRules m → Proper m
 proper_kept m kept =

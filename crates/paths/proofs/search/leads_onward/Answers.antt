@@ -8,3 +8,6 @@ returns-then-is_nearer c = grind (arith, nat_tests, nearer_is)
 
 pub returns-then-flow-gt0 : goal.returns-then-flow-gt0
 returns-then-flow-gt0 c = grind (arith, nat_tests, nearer_is)
+
+pub returns-else-flow-gt0 : goal.returns-else-flow-gt0
+returns-else-flow-gt0 c = grind (arith, nat_tests, nearer_is)

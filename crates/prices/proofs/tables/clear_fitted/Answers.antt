@@ -2,7 +2,7 @@ use Rattle.std.proofs.Common.{arith}
 use Rattle.circulation.proofs.Few.{top_small}
 use Rattle.network.proofs.Rows.{length_bids_in, length_lines_in}
 use Rattle.network.specs.Given.{market_given}
-use Rattle.prices.proofs.Bounds.{bounded_kept, filled_with, zeros_feasible, run_found}
+use Rattle.prices.proofs.Bounds.{bounded_kept, filled_with, zeros_feasible}
 use Rattle.prices.proofs.Entries.{front_long}
 use Rattle.prices.proofs.tables.clear_fitted.Goals as goal
 
@@ -23,11 +23,3 @@ circulate-pushes-requires c =
       few = omega (arith, top_small (market_given t) c.requires.kept);
       feasible = zeros_feasible (market_given t) _ _ _ bought sold flow;
     }
-
-pub returns : goal.returns
-returns c =
-    let fitted = c.requires.fitted in
-    let bought = filled_with _ _ _ (c.fill.ensures.after (λ y same. same)) fitted.bought_long in
-    let sold = filled_with _ _ _ (c.fill-2.ensures.after (λ y same. same)) fitted.sold_long in
-    let flow = filled_with _ _ _ (c.fill-3.ensures.after (λ y same. same)) fitted.flow_long in
-    run_found (market_given c.args.t) _ _ _ _ _ _ _ bought sold flow c.circulate-pushes.ensures.run c.lay_prices.ensures
