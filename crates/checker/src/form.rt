@@ -103,7 +103,7 @@ pub struct Zones<'a> {
     pub rest: &'a [u8],
 }
 
-// What the rows of a sort say, and the text behind them. Amounts and moneys are lists of their own, since a claim takes amounts alone.
+// What the rows of a sort say, and the text behind them. Amounts are a list of their own, since a claim takes them alone.
 #[derive(Drop)]
 pub struct Rows<'a> {
     pub amounts: Vec<u64>,

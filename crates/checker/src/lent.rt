@@ -49,8 +49,8 @@ pub fn hour_to_check<'a>(
     Ok(Hour::of(bytes))
 }
 
-// The hour whose prices are ranked, where so many numbers are lent for marks. Apart from the hour that is checked: one function for
-// both would take what is lent as a closure, whose contract is longer than these bodies.
+// The hour whose prices are ranked, where so many numbers are lent for marks. One function for both hours would take the check of
+// what is lent as a closure, with a contract longer than these bodies.
 pub fn hour_to_rank<'a>(
     bytes: &'a [u8],
     amounts: Amounts,

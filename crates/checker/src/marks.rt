@@ -17,7 +17,7 @@ fn wipe(marks: &mut [u64], n: usize)
     marks[..n].fill(0);
 }
 
-// That there is a mark for each zone is asked by each of these: a value that held it would hold marks that are lent to be changed.
+// Each asks for a mark for each zone: a value that held that fact would hold marks that are lent to be changed.
 impl Claim<'_> {
     // Marks that are all 0 become those of the zones that are held up, one after the other.
     fn mark_bare(self, marks: &mut [u64])
