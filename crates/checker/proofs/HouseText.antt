@@ -8,7 +8,7 @@ use Rattle.hour.proofs.Kept.{kept}
 use Rattle.hour.proofs.Total.{total_same}
 use Rattle.hour.specs.Bytes.{market_of}
 use Rattle.hour.specs.Listed.{listed}
-use Rattle.hour.specs.Market.{Market, Outcome, Proper, Feasible, Settled, at, bid, worth}
+use Rattle.hour.specs.Market.{Market, Outcome, Proper, Feasible, Settled, at, bid, worth, count_of}
 use Rattle.hour.specs.declared.items.Bid.{Bid}
 use Rattle.hour.specs.declared.refusals.Refusal.{Refusal}
 use Rattle.hour.specs.declared.refusals.Sort.{Sort}
@@ -20,7 +20,7 @@ use Rattle.circulation.proofs.Few.{top_small}
 use Rattle.prices.proofs.Bounds.{proper_kept}
 use Rattle.ledger.proofs.Booked.{money_agree}
 use Rattle.ledger.proofs.Limits.{among_item, payable_lowest}
-use Rattle.ledger.specs.Money.{item, count, worth_by}
+use Rattle.ledger.specs.Money.{item, worth_by}
 use Rattle.ledger.specs.Published as texts
 use Rattle.checker.proofs.Breaches.{none_broken}
 use Rattle.checker.proofs.TextBack.{read_back}
@@ -59,7 +59,7 @@ module _ (m : Market) (proper : Proper m) (o : Outcome) (ps : List ℕ) (n : ℕ
 
   rows_follow : (s : Sort) → rows_wrong m (outcome_said t) t.zones.prices s (table_of t s).moneys ≡ None
   rows_follow s =
-      first_all _ (count m s)
+      first_all _ (count_of m s)
       (λ k below.
       figure_follows (first_line (counts_in m) s + k) (Some s) _ _
       (sym (money_agree m ps t.zones.prices proper said_prices o (outcome_said t) said_agree (item s k) (among_item m s k below))

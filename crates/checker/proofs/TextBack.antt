@@ -2,12 +2,12 @@
 use Rattle.std.proofs.Common.{◌≡◌, ℕ, ◌^◌, ◌<◌, ◌≤◌, List, [], ◌++◌, ℤ, pos, negsuc, nat_abs, Ok, sym, refl, ap, ◌∙◌, append_assoc, append-nil, arith}
 use lib.Signed.{mag}
 use Rattle.hour.specs.Listed.{listed}
-use Rattle.hour.specs.Market.{Market, Outcome, at}
+use Rattle.hour.specs.Market.{Market, Outcome, at, count_of}
 use Rattle.hour.specs.Rules.{KeepsRules}
 use Rattle.hour.specs.declared.refusals.Sort.{Sort}
 use Rattle.hour.specs.declared.refusals.Sort.TheVariants as sorts
 use Rattle.network.specs.Network.{carried}
-use Rattle.ledger.specs.Money.{item, count, money, worth_by, Payable}
+use Rattle.ledger.specs.Money.{item, money, worth_by, Payable}
 use Rattle.ledger.specs.Text.{worth_row, zone_rows, sort_rows, result_of}
 use Rattle.ledger.proofs.Limits.{among_item, carried_small, count_small, size_item, worth_small}
 use Rattle.checker.specs.Follows.{counts_in}
@@ -25,13 +25,13 @@ module _
   where
     abbrev table_with : Sort → List ℕ → Table
     table_with s rest =
-        table (listed (count m s) (λ k. carried o (item s k))) (listed (count m s) (λ k. money m o ps (item s k))) rest
+        table (listed (count_of m s) (λ k. carried o (item s k))) (listed (count_of m s) (λ k. money m o ps (item s k))) rest
 
     sort_back :
         (s : Sort) (line : ℕ) (rest : List ℕ) →
-        items_at s line (count m s) (sort_rows m o ps s ++ rest) ≡ Ok (table_with s rest)
+        items_at s line (count_of m s) (sort_rows m o ps s ++ rest) ≡ Ok (table_with s rest)
     sort_back s line rest =
-        items_back s line (λ k. carried o (item s k)) (λ k. money m o ps (item s k)) (count m s) rest
+        items_back s line (λ k. carried o (item s k)) (λ k. money m o ps (item s k)) (count_of m s) rest
         (λ k h.
         let among = among_item m s k h in (
           omega (arith, count_small m rules s),
@@ -70,12 +70,12 @@ module _
         (λ z h. (omega (arith, rules.zones), omega (arith, pay.prices z h))))
         (sort_back sorts.Buy _ behind_buys) (sort_back sorts.Sell _ behind_sells) (sort_back sorts.Line _ []) refl
 
-    amounts_said : (s : Sort) → (table_of said s).amounts ≡ listed (count m s) (λ k. carried o (item s k))
+    amounts_said : (s : Sort) → (table_of said s).amounts ≡ listed (count_of m s) (λ k. carried o (item s k))
     amounts_said sorts.Buy = refl
     amounts_said sorts.Sell = refl
     amounts_said sorts.Line = refl
 
-    moneys_said : (s : Sort) → (table_of said s).moneys ≡ listed (count m s) (λ k. money m o ps (item s k))
+    moneys_said : (s : Sort) → (table_of said s).moneys ≡ listed (count_of m s) (λ k. money m o ps (item s k))
     moneys_said sorts.Buy = refl
     moneys_said sorts.Sell = refl
     moneys_said sorts.Line = refl

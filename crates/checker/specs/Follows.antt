@@ -10,11 +10,11 @@
 use Rattle.std.specs.Prelude.{ℕ, ◌+◌, not, List, length, ℤ, pos, Some, None, Option, slice_index_or}
 use Rattle.std.specs.Ordering.{int_eq}
 use Rattle.hour.specs.First.{when, ◌else◌, first}
-use Rattle.hour.specs.Market.{Market, Outcome}
+use Rattle.hour.specs.Market.{Market, Outcome, count_of}
 use Rattle.hour.specs.declared.refusals.Sort.{Sort}
 use Rattle.hour.specs.declared.refusals.Sort.TheVariants as sorts
 use Rattle.network.specs.Tables.{outcome_in}
-use Rattle.ledger.specs.Money.{money, item, count, worth_by}
+use Rattle.ledger.specs.Money.{money, item, worth_by}
 use Rattle.checker.specs.Form.{Saying, first_line}
 use Rattle.checker.specs.declared.form.Counts.{Counts}
 use Rattle.checker.specs.declared.reports.Wrong.{Wrong}
@@ -37,7 +37,7 @@ row_wrong m o ps s ds k =
     figure_wrong (first_line (counts_in m) s + k) (Some s) (money m o ps (item s k)) (money_at ds k)
 
 abbrev pub rows_wrong : Market → Outcome → List ℕ → Sort → List ℤ → Option Wrong
-rows_wrong m o ps s ds = first (count m s) (row_wrong m o ps s ds)
+rows_wrong m o ps s ds = first (count_of m s) (row_wrong m o ps s ds)
 
 abbrev pub worth_wrong : Market → Outcome → ℤ → Option Wrong
 worth_wrong m o written = figure_wrong 1 None (worth_by m o) written

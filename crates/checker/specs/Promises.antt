@@ -15,7 +15,7 @@
 use Rattle.std.specs.Prelude.{◌≡◌, ℕ, ◌+◌, ◌^◌, ◌<◌, ◌≤◌, List, length, None, Ok, Option, Result}
 use Rattle.hour.specs.Bytes.{market_of, refusal_of}
 use Rattle.hour.specs.Listed.{listed}
-use Rattle.hour.specs.Market.{Market, Outcome, Feasible, Settled, at, worth}
+use Rattle.hour.specs.Market.{Market, Outcome, Feasible, Settled, at, worth, count_of}
 use Rattle.hour.specs.Rules.{KeepsRules}
 use Rattle.hour.specs.declared.refusals.Sort.{Sort}
 use Rattle.hour.specs.declared.refusals.Sort.TheVariants as sorts
@@ -23,7 +23,7 @@ use Rattle.network.specs.Network.{carried}
 use Rattle.network.specs.Prices.{Lowest}
 use Rattle.network.specs.Tables.{outcome_in}
 use Rattle.ledger.specs.Entry.{Slices, Answer}
-use Rattle.ledger.specs.Money.{item, count, money, worth_by, Payable}
+use Rattle.ledger.specs.Money.{item, money, worth_by, Payable}
 use Rattle.ledger.specs.Published as texts
 use Rattle.ledger.specs.Text.{result_of}
 use Rattle.checker.specs.Acceptance.{verdict_of}
@@ -93,8 +93,8 @@ pub record Says (m : Market) (o : Outcome) (ps : List ℕ) (pushes : ℕ) (t : S
   pub worth : t.worth ≡ worth_by m o
   pub pushes_said : t.pushes ≡ pushes
   pub prices : t.zones.prices ≡ listed m.zones (at ps)
-  pub amounts : (s : Sort) → (table_of t s).amounts ≡ listed (count m s) (λ k. carried o (item s k))
-  pub moneys : (s : Sort) → (table_of t s).moneys ≡ listed (count m s) (λ k. money m o ps (item s k))
+  pub amounts : (s : Sort) → (table_of t s).amounts ≡ listed (count_of m s) (λ k. carried o (item s k))
+  pub moneys : (s : Sort) → (table_of t s).moneys ≡ listed (count_of m s) (λ k. money m o ps (item s k))
 
 pub record ReadsBack (m : Market) (o : Outcome) (ps : List ℕ) (pushes : ℕ) : Type 0 where
   pub said : Saying

@@ -1,10 +1,11 @@
 // Whether the worth and the money of each row follow from the amounts and the prices.
 ghost use Rattle.std.specs.Prelude.{◌≡◌, ◌+◌, ◌^◌, ◌<◌, ◌≤◌, Some};
 ghost use Rattle.std.specs.Result.{result_err};
+ghost use Rattle.hour.specs.Market.{count_of};
 ghost use Rattle.hour.specs.Seen.{market_seen};
 ghost use Rattle.hour.specs.Rules.{max_amount};
 ghost use Rattle.network.specs.Network.{Among};
-ghost use Rattle.ledger.specs.Money.{owed, money, item, count};
+ghost use Rattle.ledger.specs.Money.{owed, money, item};
 ghost use Rattle.checker.specs.Acceptance.{outcome_given, claimed};
 ghost use Rattle.checker.specs.Follows.{money_at, figure_wrong, row_wrong, rows_wrong, worth_wrong, counts_in};
 
@@ -81,7 +82,7 @@ impl Standing<'_> {
 
     // The money of the k-th of a sort.
     fn check_money(self, sort: Sort, moneys: &[i128], k: usize) -> Result<(), Wrong>
-        requires { k < count (market_seen self.claim.hour) sort }
+        requires { k < count_of (market_seen self.claim.hour) sort }
         ensures { result_err result ≡ claimed row_wrong self.entry.claim sort moneys.now k }
     {
         let line = Counts::from(self.claim.hour).first_line(sort) + k;

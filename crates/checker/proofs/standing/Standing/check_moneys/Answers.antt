@@ -1,12 +1,12 @@
 use Rattle.std.proofs.Common.{arith, rules}
+use Rattle.hour.specs.Market.{count_of}
 use Rattle.hour.specs.Seen.{market_seen}
 use Rattle.hour.proofs.First.{first_answer, first_more}
-use Rattle.ledger.specs.Money.{count}
 use Rattle.checker.proofs.standing.Standing.check_moneys.Goals as goal
 
 pub returns-in_err-check_money : goal.returns-in_err-check_money
 returns-in_err-check_money c =
-    first_answer _ c.loop-k.k (count (market_seen c.args.self.claim.hour) c.args.sort) _ (omega arith)
+    first_answer _ c.loop-k.k (count_of (market_seen c.args.self.claim.hour) c.args.sort) _ (omega arith)
     c.loop-k.invariant (search rules) (search rules)
 
 pub loop-k-preserved : goal.loop-k-preserved
