@@ -54,15 +54,6 @@ module _
           price_room = ltb-false _ _ (when_none _ _ (else_none_right _ _ after_sold));
         }
 
-    after_results : (lent_fault 4 ledger (head_size (head_of bs) + 3) else lent_fault 5 work (64 * head_size (head_of bs))) ≡ None
-    after_results = else_none_right _ _ slices
-
-    pub ledger_room : head_size (head_of bs) + 3 ≤ ledger
-    ledger_room = ltb-false _ _ (when_none _ _ (else_none_left _ _ after_results))
-
-    pub work_room : 64 * head_size (head_of bs) ≤ work
-    work_room = ltb-false _ _ (when_none _ _ (else_none_right _ _ after_results))
-
 -- and where they are, none is refused
 lent_enough : (slice has needed : ℕ) → needed ≤ has → lent_fault slice has needed ≡ None
 lent_enough slice has needed fits = when_false _ _ (le-ltb has needed fits)

@@ -3,7 +3,6 @@ use Rattle.std.proofs.Common.{◌≡◌, ℕ, zero, suc, ◌+◌, ◌*◌, ◌^�
 use borrow.Author.Differences.{ints}
 use Rattle.hour.proofs.First.{is_none}
 use Rattle.hour.proofs.Kept.{kept}
-use Rattle.hour.proofs.Total.{total_more}
 use Rattle.hour.specs.Total.{total}
 use Rattle.hour.specs.Market.{Market, Outcome, Feasible}
 use Rattle.hour.specs.Rules.{KeepsRules, max_price, max_amount}
@@ -18,10 +17,10 @@ use Rattle.network.specs.declared.arcs.Item.{Item}
 use Rattle.network.specs.declared.arcs.Item.TheVariants.{Buy, Sell, Line}
 use Rattle.hour.specs.Seen.{market_seen}
 use Rattle.ledger.specs.Money.{item, count, above, base, money, asked, sumℤ}
-use Rattle.ledger.specs.Money.{first_row, row_count, worth_of, Payable}
+use Rattle.ledger.specs.Money.{worth_of, Payable}
 use Rattle.ledger.specs.Promises.{SumsSmall, WorthSmall}
 use Rattle.ledger.specs.Written.{widest}
-use Rattle.ledger.proofs.Size.{size_add, size_between, size_owed, number_back, bits_back}
+use Rattle.ledger.proofs.Size.{size_add, size_between, size_owed, bits_back}
 
 pub rules_of : (h : Hour) → KeepsRules (market_seen h)
 rules_of h = kept h.bytes.now (is_none _ h.kept)
@@ -98,29 +97,10 @@ module _ (m : Market) (o : Outcome) (ps : List ℕ) (rules : KeepsRules m) (pay 
         add-mul n 1 (widest s),
       )
 
-pub row_below : (m : Market) (s : Sort) (k : ℕ) → k < count m s → first_row m s + k < row_count m
-row_below m sorts.Buy k h = omega arith
-row_below m sorts.Sell k h = omega arith
-row_below m sorts.Line k h = omega arith
-
 pub widest_fits : (s : Sort) → widest s < 2 ^ 63
 widest_fits sorts.Buy = omega arith
 widest_fits sorts.Sell = omega arith
 widest_fits sorts.Line = omega arith
-
--- the money z of the item i, which is the k-th of a sort, passed on by its bits
-module _
-    (m : Market) (o : Outcome) (ps : List ℕ) (rules : KeepsRules m) (pay : Payable m o ps) (s : Sort) (k : ℕ)
-    (below : k < count m s) (i : Item) (z : ℤ) (is : z ≡ money m o ps i) (here : i ≡ item s k)
-  where
-    pub row_back : to_z w64 (of_z w64 z) ≡ money m o ps (item s k)
-    row_back =
-        let stands = is ∙ ap (money m o ps) here in
-        let row = size_row m o ps rules pay s k below in
-        number_back z (omega (arith, ap nat_abs stands, widest_fits s)) ∙ stands
-
-    pub row_small : nat_abs (to_z w64 (of_z w64 z)) ≤ widest s
-    row_small = omega (arith, ap nat_abs row_back, size_row m o ps rules pay s k below)
 
 -- the rows of a sort together
 pub widest_all : (m : Market) → KeepsRules m → (s : Sort) → count m s * widest s < 400_000_000_000_000
@@ -146,11 +126,6 @@ running_small m rules s k x y below sum row =
 -- the first n items of a sort at their own prices
 abbrev pub worth_to : Market → Outcome → Sort → ℕ → ℕ
 worth_to m o s n = total n (λ k. asked m (item s k) * carried o (item s k))
-
-pub worth_more :
-    (m : Market) (o : Outcome) (s : Sort) (k : ℕ) →
-    worth_to m o s (k + 1) ≡ worth_to m o s k + asked m (item s k) * carried o (item s k)
-worth_more m o s k = total_more k (λ j. asked m (item s j) * carried o (item s j))
 
 module _ (m : Market) (o : Outcome) (rules : KeepsRules m) (feasible : Feasible m o) (s : Sort) where
   pub worth_row : (k : ℕ) → k < count m s → asked m (item s k) * carried o (item s k) ≤ 400_000_000_000

@@ -2,7 +2,7 @@
 use Rattle.std.proofs.Common.{arith}
 use Rattle.hour.specs.Seen.{market_seen}
 use Rattle.ledger.specs.Money.{outcome_given}
-use Rattle.ledger.proofs.Limits.{rules_of, worth_is, worth_fits}
+use Rattle.ledger.proofs.Limits.{rules_of, worth_fits}
 use Rattle.ledger.proofs.worth.item_worth.Goals as goal
 
 pub overflow_mul-result : goal.overflow_mul-result
@@ -14,18 +14,8 @@ overflow_mul-result c =
           c.item_of-item.ensures c.price_asked.ensures c.amount_of.ensures,
     )
 
-pub returns : goal.returns
-returns c =
-    let m = market_seen c.args.hour in
-    let o = outcome_given c.args.o in
-    let rules = rules_of c.args.hour in
-    let s = c.args.sort in
-    let k = c.args.k in
-    record {
-      value =
-          worth_is m o rules c.requires.feasible s k c.requires.among _ _ _
-          c.item_of-item.ensures c.price_asked.ensures c.amount_of.ensures;
-      small =
-          worth_fits m o rules c.requires.feasible s k c.requires.among _ _ _
-          c.item_of-item.ensures c.price_asked.ensures c.amount_of.ensures;
-    }
+pub returns-clause-small : goal.returns-clause-small
+returns-clause-small c =
+    worth_fits (market_seen c.args.hour) (outcome_given c.args.o) (rules_of c.args.hour) c.requires.feasible
+    c.args.sort c.args.k c.requires.among _ _ _
+    c.item_of-item.ensures c.price_asked.ensures c.amount_of.ensures
