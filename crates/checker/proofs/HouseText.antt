@@ -20,7 +20,8 @@ use Rattle.circulation.proofs.Few.{top_small}
 use Rattle.prices.proofs.Bounds.{proper_kept}
 use Rattle.ledger.proofs.Booked.{money_agree}
 use Rattle.ledger.proofs.Limits.{among_item, payable_lowest}
-use Rattle.ledger.specs.Money.{item, worth_by}
+use Rattle.network.specs.Given.{item}
+use Rattle.ledger.specs.Money.{worth_by}
 use Rattle.ledger.specs.Published as texts
 use Rattle.checker.proofs.Breaches.{none_broken}
 use Rattle.checker.proofs.TextBack.{read_back}

@@ -7,7 +7,8 @@ use Rattle.hour.specs.Rules.{KeepsRules}
 use Rattle.hour.specs.declared.refusals.Sort.{Sort}
 use Rattle.hour.specs.declared.refusals.Sort.TheVariants as sorts
 use Rattle.network.specs.Network.{carried}
-use Rattle.ledger.specs.Money.{item, money, worth_by, Payable}
+use Rattle.network.specs.Given.{item}
+use Rattle.ledger.specs.Money.{money, worth_by, Payable}
 use Rattle.ledger.specs.Text.{worth_row, zone_rows, sort_rows, result_of}
 use Rattle.ledger.proofs.Limits.{among_item, carried_small, count_small, size_item, worth_small}
 use Rattle.checker.specs.Follows.{counts_in}

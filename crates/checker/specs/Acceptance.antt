@@ -1,6 +1,5 @@
 -- When a published result is accepted, and the first rule that it breaks. Assumes nothing: these are definitions.
 --
---   outcome_given o        the outcome that lent slices hold
 --   claimed f c            f of the market, the outcome and the prices of a claim
 --   content_test l x c v   whether x is content, as Content says, where a unit costs c and brings v
 --   item_broken            the rule that a buy, a sell or a line breaks: too large comes before not allowed
@@ -29,8 +28,7 @@ use Rattle.hour.specs.declared.reading.Head.{Head}
 use Rattle.hour.specs.declared.refusals.Refusal.{Refusal}
 use Rattle.hour.specs.declared.refusals.Sort.{Sort}
 use Rattle.hour.specs.declared.refusals.Sort.TheVariants as sorts
-use Rattle.network.specs.Tables.{outcome_in}
-use Rattle.network.specs.declared.tables.Amounts.{Amounts}
+use Rattle.network.specs.Given.{outcome_given}
 use Rattle.checker.specs.declared.verdict.Broken.{Broken}
 use Rattle.checker.specs.declared.verdict.Broken.TheVariants.{TooLarge, NotAllowed, Unbalanced}
 use Rattle.checker.specs.declared.verdict.Objection.{Objection}
@@ -38,9 +36,6 @@ use Rattle.checker.specs.declared.verdict.Objection.TheVariants as objections
 use Rattle.checker.specs.declared.claim.Claim.{Claim}
 use Rattle.checker.specs.declared.balance.Side.{Side}
 use Rattle.checker.specs.declared.balance.Side.TheVariants.{Sold, Into, Bought, OutOf}
-
-abbrev pub outcome_given : Amounts → Outcome
-outcome_given o = outcome_in o.bought.now o.sold.now o.flow.now
 
 abbrev pub claimed {ℓ} : {A : Type ℓ} → (Market → Outcome → List ℕ → A) → Claim → A
 claimed f c = f (market_seen c.hour) (outcome_given c.amounts) c.prices.now

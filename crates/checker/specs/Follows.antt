@@ -14,7 +14,8 @@ use Rattle.hour.specs.Market.{Market, Outcome, count_of}
 use Rattle.hour.specs.declared.refusals.Sort.{Sort}
 use Rattle.hour.specs.declared.refusals.Sort.TheVariants as sorts
 use Rattle.network.specs.Tables.{outcome_in}
-use Rattle.ledger.specs.Money.{money, item, worth_by}
+use Rattle.network.specs.Given.{item}
+use Rattle.ledger.specs.Money.{money, worth_by}
 use Rattle.checker.specs.Form.{Saying, first_line}
 use Rattle.checker.specs.declared.form.Counts.{Counts}
 use Rattle.checker.specs.declared.reports.Wrong.{Wrong}

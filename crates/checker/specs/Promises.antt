@@ -23,7 +23,8 @@ use Rattle.network.specs.Network.{carried}
 use Rattle.network.specs.Prices.{Lowest}
 use Rattle.network.specs.Tables.{outcome_in}
 use Rattle.ledger.specs.Entry.{Slices, Answer}
-use Rattle.ledger.specs.Money.{item, money, worth_by, Payable}
+use Rattle.network.specs.Given.{item}
+use Rattle.ledger.specs.Money.{money, worth_by, Payable}
 use Rattle.ledger.specs.Published as texts
 use Rattle.ledger.specs.Text.{result_of}
 use Rattle.checker.specs.Acceptance.{verdict_of}

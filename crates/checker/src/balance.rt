@@ -4,7 +4,8 @@ ghost use Rattle.std.specs.Result.{result_err};
 ghost use Rattle.hour.specs.Seen.{market_seen};
 ghost use Rattle.hour.specs.First.{first};
 ghost use Rattle.hour.specs.Market.{at};
-ghost use Rattle.checker.specs.Acceptance.{outcome_given, side_count, side_zone, side_amounts};
+ghost use Rattle.network.specs.Given.{outcome_given};
+ghost use Rattle.checker.specs.Acceptance.{side_count, side_zone, side_amounts};
 ghost use Rattle.checker.specs.Acceptance.{side_total, zone_broken};
 
 use crate::claim::Claim;

@@ -5,8 +5,9 @@ ghost use Rattle.hour.specs.Market.{count_of};
 ghost use Rattle.hour.specs.Seen.{market_seen};
 ghost use Rattle.hour.specs.Rules.{max_amount};
 ghost use Rattle.network.specs.Network.{Among};
-ghost use Rattle.ledger.specs.Money.{owed, money, item};
-ghost use Rattle.checker.specs.Acceptance.{outcome_given, claimed};
+ghost use Rattle.network.specs.Given.{item, outcome_given};
+ghost use Rattle.ledger.specs.Money.{owed, money};
+ghost use Rattle.checker.specs.Acceptance.{claimed};
 ghost use Rattle.checker.specs.Follows.{money_at, figure_wrong, row_wrong, rows_wrong, worth_wrong, counts_in};
 
 use crate::claim::Claim;
@@ -14,7 +15,7 @@ use crate::form::Counts;
 use crate::reports::Wrong;
 use crate::standing::Standing;
 use hour::{Hour, Sort};
-use ledger::{amount_of, item_of, price_above, price_below, worth_in};
+use ledger::{price_above, price_below, worth_in};
 use network::Item;
 
 fn money_at(moneys: &[i128], k: usize) -> i128
@@ -64,7 +65,7 @@ impl Standing<'_> {
         owed(
             price_above(hour, prices, item),
             price_below(hour, prices, item),
-            amount_of(amounts, item),
+            amounts.of(item),
         )
     }
 
@@ -86,7 +87,7 @@ impl Standing<'_> {
         ensures { result_err result ≡ claimed row_wrong self.entry.claim sort moneys.now k }
     {
         let line = Counts::from(self.claim.hour).first_line(sort) + k;
-        let follows = self.money_due(item_of(sort, k));
+        let follows = self.money_due(Item::of(sort, k));
         check_figure(line, Some(sort), follows, money_at(moneys, k))
     }
 

@@ -3,7 +3,8 @@ ghost use Rattle.std.specs.Prelude.{◌≡◌, ◌≤◌, IfOk};
 ghost use Rattle.std.specs.Result.{result_err};
 ghost use Rattle.hour.specs.First.{◌else◌};
 ghost use Rattle.hour.specs.Rules.{lent_fault};
-ghost use Rattle.checker.specs.Acceptance.{outcome_given, lent_refusal, refusal_to_check};
+ghost use Rattle.network.specs.Given.{outcome_given};
+ghost use Rattle.checker.specs.Acceptance.{lent_refusal, refusal_to_check};
 ghost use Rattle.checker.specs.Marks.{refusal_to_mark};
 
 use hour::{Head, Hour, Refusal, check_items, check_lent, read_head};

@@ -2,7 +2,7 @@
 use Rattle.std.proofs.Common.{◌≡◌, ℕ, zero, suc, ◌+◌, ◌-◌, ◌≤◌, List, ◌++◌, length, take, drop, replicate, ◌+ℤ◌, sym, refl, ap, ◌∙◌, subst, ap₂, arith, w64, of_z}
 use Rattle.std.proofs.lemmas.List.{ext_get_or, get_or-drop, length-drop}
 use Rattle.hour.specs.Bytes.{market_of}
-use Rattle.hour.specs.Market.{Market, Outcome, Proper, at}
+use Rattle.hour.specs.Market.{Market, Outcome, Proper, at, count_of}
 use Rattle.hour.specs.Rules.{KeepsRules, max_price}
 use Rattle.hour.specs.declared.refusals.Sort.{Sort}
 use Rattle.network.proofs.Agree.{Agree, AgreePrices, feasible_agree, fronts_agree, front_prices}
@@ -19,7 +19,8 @@ use Rattle.prices.specs.Found.{Found, Promised, result_in, prices_in}
 use Rattle.ledger.proofs.Even.{ledger_even}
 use Rattle.ledger.proofs.Limits.{among_item}
 use Rattle.ledger.specs.Entry.{Slices, ClearedIn}
-use Rattle.ledger.specs.Money.{item, count, above, base, owed, money, sumℤ, LedgerOf, Payable}
+use Rattle.network.specs.Given.{item}
+use Rattle.ledger.specs.Money.{above, base, owed, money, sumℤ, LedgerOf, Payable}
 use Rattle.ledger.specs.Promises.{Evens}
 
 module _ (m : Market) (ps qs : List ℕ) (proper : Proper m) (same : AgreePrices m ps qs) where
@@ -39,7 +40,7 @@ module _ (m : Market) (ps qs : List ℕ) (proper : Proper m) (same : AgreePrices
         ap₂ (λ (a b : ℕ). owed a b (carried o i)) (above_agree i among) (base_agree i among)
         ∙ ap (owed (above m qs i) (base m qs i)) (alike i among)
 
-    sum_agree : (s : Sort) (n : ℕ) → n ≤ count m s →
+    sum_agree : (s : Sort) (n : ℕ) → n ≤ count_of m s →
         sumℤ n (λ k. money m o ps (item s k)) ≡ sumℤ n (λ k. money m p qs (item s k))
     sum_agree s zero fits = refl
     sum_agree s (suc n) fits =
@@ -49,7 +50,7 @@ module _ (m : Market) (ps qs : List ℕ) (proper : Proper m) (same : AgreePrices
     ledger_agree l ledger =
         record {
           rows = λ s k below. ledger.rows s k below ∙ ap (of_z w64) (money_agree (item s k) (among_item m s k below));
-          sums = λ s. ledger.sums s ∙ ap (of_z w64) (sum_agree s (count m s) (omega arith));
+          sums = λ s. ledger.sums s ∙ ap (of_z w64) (sum_agree s (count_of m s) (omega arith));
         }
 
 -- what was found stands at the front of slices: they can be booked as they are, and what is booked is of what was found

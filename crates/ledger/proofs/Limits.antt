@@ -4,7 +4,7 @@ use borrow.Author.Differences.{ints}
 use Rattle.hour.proofs.First.{is_none}
 use Rattle.hour.proofs.Kept.{kept}
 use Rattle.hour.specs.Total.{total}
-use Rattle.hour.specs.Market.{Market, Outcome, Feasible}
+use Rattle.hour.specs.Market.{Market, Outcome, Feasible, count_of}
 use Rattle.hour.specs.Rules.{KeepsRules, max_price, max_amount}
 use Rattle.hour.specs.declared.refusals.Sort.{Sort}
 use Rattle.hour.specs.declared.refusals.Sort.TheVariants as sorts
@@ -16,7 +16,8 @@ use Rattle.network.specs.Prices.{Lowest, PricesTo}
 use Rattle.network.specs.declared.arcs.Item.{Item}
 use Rattle.network.specs.declared.arcs.Item.TheVariants.{Buy, Sell, Line}
 use Rattle.hour.specs.Seen.{market_seen}
-use Rattle.ledger.specs.Money.{item, count, above, base, money, asked, sumℤ}
+use Rattle.network.specs.Given.{item}
+use Rattle.ledger.specs.Money.{above, base, money, asked, sumℤ}
 use Rattle.ledger.specs.Money.{worth_of, Payable}
 use Rattle.ledger.specs.Promises.{SumsSmall, WorthSmall}
 use Rattle.ledger.specs.Written.{widest}
@@ -25,7 +26,7 @@ use Rattle.ledger.proofs.Size.{size_add, size_between, size_owed, bits_back}
 pub rules_of : (h : Hour) → KeepsRules (market_seen h)
 rules_of h = kept h.bytes.now (is_none _ h.kept)
 
-pub among_item : (m : Market) (s : Sort) (k : ℕ) → k < count m s → Among m (item s k)
+pub among_item : (m : Market) (s : Sort) (k : ℕ) → k < count_of m s → Among m (item s k)
 among_item m sorts.Buy k h = h
 among_item m sorts.Sell k h = h
 among_item m sorts.Line k h = h
@@ -81,12 +82,12 @@ module _ (m : Market) (o : Outcome) (ps : List ℕ) (rules : KeepsRules m) (pay 
       (size_between _ _ max_price (above_small i h) (base_small i h))
       (carried_small m rules o pay.feasible i h)
 
-  pub size_row : (s : Sort) (k : ℕ) → k < count m s → nat_abs (money m o ps (item s k)) ≤ widest s
+  pub size_row : (s : Sort) (k : ℕ) → k < count_of m s → nat_abs (money m o ps (item s k)) ≤ widest s
   size_row sorts.Buy k h = size_bid (Buy k) h refl
   size_row sorts.Sell k h = size_bid (Sell k) h refl
   size_row sorts.Line k h = size_item (Line k) h
 
-  size_sum : (s : Sort) (n : ℕ) → n ≤ count m s → nat_abs (sumℤ n (λ k. money m o ps (item s k))) ≤ n * widest s
+  size_sum : (s : Sort) (n : ℕ) → n ≤ count_of m s → nat_abs (sumℤ n (λ k. money m o ps (item s k))) ≤ n * widest s
   size_sum s zero h = omega arith
   size_sum s (suc n) h =
       omega (
@@ -103,23 +104,23 @@ widest_fits sorts.Sell = omega arith
 widest_fits sorts.Line = omega arith
 
 -- the rows of a sort together
-pub widest_all : (m : Market) → KeepsRules m → (s : Sort) → count m s * widest s < 400_000_000_000_000
+pub widest_all : (m : Market) → KeepsRules m → (s : Sort) → count_of m s * widest s < 400_000_000_000_000
 widest_all m rules sorts.Buy = omega (arith, rules.buys)
 widest_all m rules sorts.Sell = omega (arith, rules.sells)
 widest_all m rules sorts.Line = omega (arith, rules.lines)
 
 -- the sum of a sort, passed on by its bits
 pub sum_bits :
-    (m : Market) → KeepsRules m → (s : Sort) (z : ℤ) → nat_abs z ≤ count m s * widest s →
+    (m : Market) → KeepsRules m → (s : Sort) (z : ℤ) → nat_abs z ≤ count_of m s * widest s →
     of_z w64 (to_z w64 (of_z w64 z)) ≡ of_z w64 z
 sum_bits m rules s z small = bits_back z (omega (arith, widest_all m rules s))
 
 -- a sum of some rows of a sort, and one row more
 pub running_small :
-    (m : Market) → KeepsRules m → (s : Sort) (k x y : ℕ) → k < count m s → x ≤ k * widest s → y ≤ widest s →
+    (m : Market) → KeepsRules m → (s : Sort) (k x y : ℕ) → k < count_of m s → x ≤ k * widest s → y ≤ widest s →
     x + y < 2 ^ 63
 running_small m rules s k x y below sum row =
-    let more : k + 1 ≤ count m s = omega arith in
+    let more : k + 1 ≤ count_of m s = omega arith in
     let same : widest s ≤ widest s = omega arith in
     omega (arith, mul-le-mul more same, add-mul k 1 (widest s), widest_all m rules s)
 
@@ -128,18 +129,18 @@ abbrev pub worth_to : Market → Outcome → Sort → ℕ → ℕ
 worth_to m o s n = total n (λ k. asked m (item s k) * carried o (item s k))
 
 module _ (m : Market) (o : Outcome) (rules : KeepsRules m) (feasible : Feasible m o) (s : Sort) where
-  pub worth_row : (k : ℕ) → k < count m s → asked m (item s k) * carried o (item s k) ≤ 400_000_000_000
+  pub worth_row : (k : ℕ) → k < count_of m s → asked m (item s k) * carried o (item s k) ≤ 400_000_000_000
   worth_row k h =
       let among = among_item m s k h in
       mul-le-mul (asked_small m rules (item s k) among) (carried_small m rules o feasible (item s k) among)
 
-  pub worth_to_small : (n : ℕ) → n ≤ count m s → worth_to m o s n ≤ n * 400_000_000_000
+  pub worth_to_small : (n : ℕ) → n ≤ count_of m s → worth_to m o s n ≤ n * 400_000_000_000
   worth_to_small zero h = omega arith
   worth_to_small (suc n) h = omega (arith, worth_to_small n (omega arith), worth_row n (omega arith))
 
 -- the price and the amount of the item i, which is the k-th of a sort
 module _
-    (m : Market) (o : Outcome) (rules : KeepsRules m) (feasible : Feasible m o) (s : Sort) (k : ℕ) (below : k < count m s)
+    (m : Market) (o : Outcome) (rules : KeepsRules m) (feasible : Feasible m o) (s : Sort) (k : ℕ) (below : k < count_of m s)
     (i : Item) (price amount : ℕ) (here : i ≡ item s k) (asks : price ≡ asked m i) (carries : amount ≡ carried o i)
   where
     pub worth_is : price * amount ≡ asked m (item s k) * carried o (item s k)
@@ -148,7 +149,7 @@ module _
     pub worth_fits : price * amount ≤ 400_000_000_000
     worth_fits = omega (arith, worth_is, worth_row m o rules feasible s k below)
 
-pub count_small : (m : Market) → KeepsRules m → (s : Sort) → count m s ≤ 1000
+pub count_small : (m : Market) → KeepsRules m → (s : Sort) → count_of m s ≤ 1000
 count_small m rules sorts.Buy = rules.buys
 count_small m rules sorts.Sell = rules.sells
 count_small m rules sorts.Line = omega (arith, rules.lines)
@@ -156,7 +157,7 @@ count_small m rules sorts.Line = omega (arith, rules.lines)
 sort_worth_small :
     (m : Market) (o : Outcome) → KeepsRules m → Feasible m o → (s : Sort) → worth_of m o s ≤ 400_000_000_000_000
 sort_worth_small m o rules feasible s =
-    omega (arith, worth_to_small m o rules feasible s (count m s) (omega arith), count_small m rules s)
+    omega (arith, worth_to_small m o rules feasible s (count_of m s) (omega arith), count_small m rules s)
 
 pub worth_small : WorthSmall
 worth_small m o rules feasible =
@@ -168,5 +169,5 @@ pub sums_small : SumsSmall
 sums_small m o ps rules pay =
     record {
       rows = size_item m o ps rules pay;
-      sums = λ s. omega (arith, size_sum m o ps rules pay s (count m s) (omega arith), widest_all m rules s);
+      sums = λ s. omega (arith, size_sum m o ps rules pay s (count_of m s) (omega arith), widest_all m rules s);
     }

@@ -2,18 +2,18 @@
 use Rattle.std.proofs.Common.{◌≡◌, ℕ, ◌+◌, ◌-◌, ◌<◌, ◌≤◌, length, sym, ◌∙◌, subst, inl, inr, arith}
 use Rattle.std.proofs.lemmas.List.{ext_get_or}
 use Rattle.std.proofs.lemmas.Bool.{cases_lt}
-use Rattle.hour.specs.Market.{Market, at}
+use Rattle.hour.specs.Market.{Market, at, count_of}
 use Rattle.hour.specs.declared.refusals.Sort.{Sort}
 use Rattle.hour.specs.declared.refusals.Sort.TheVariants as sorts
-use Rattle.ledger.specs.Money.{count, first_row, sum_row, row_count}
+use Rattle.ledger.specs.Money.{first_row, sum_row, row_count}
 use Rattle.ledger.specs.Promises.{OneLedger}
 
 -- a row of a ledger is that of an item, or a sum
 module _
-    (m : Market) (P : ℕ → Type 0) (rows : (s : Sort) (k : ℕ) → k < count m s → P (first_row m s + k))
+    (m : Market) (P : ℕ → Type 0) (rows : (s : Sort) (k : ℕ) → k < count_of m s → P (first_row m s + k))
     (sums : (s : Sort) → P (sum_row m s))
   where
-    row_of : (s : Sort) (k : ℕ) → first_row m s ≤ k → k < first_row m s + count m s → P k
+    row_of : (s : Sort) (k : ℕ) → first_row m s ≤ k → k < first_row m s + count_of m s → P k
     row_of s k from to =
         let place : first_row m s + (k - first_row m s) ≡ k = omega arith in
         subst P place (rows s (k - first_row m s) (omega arith))

@@ -2,14 +2,15 @@
 use Rattle.std.proofs.Common.{◌≡◌, ℕ, zero, suc, ◌+◌, ◌^◌, ◌<◌, List, ◌++◌, ℤ, nat_abs, length, take, sym, refl, ap, ◌∙◌, ap₂, append_assoc, zero-add, arith, w64, to_z, of_z}
 use Rattle.std.proofs.lemmas.List.{get_or-take}
 use Rattle.hour.proofs.Rows.{row_added}
-use Rattle.hour.specs.Market.{Market, Outcome, at}
+use Rattle.hour.specs.Market.{Market, Outcome, at, count_of}
 use Rattle.hour.specs.Rules.{KeepsRules}
 use Rattle.hour.specs.Text.{rows}
 use Rattle.hour.specs.declared.refusals.Sort.{Sort}
 use Rattle.hour.specs.declared.refusals.Sort.TheVariants as sorts
 use Rattle.network.specs.Network.{carried}
 use Rattle.hour.specs.Seen.{market_seen}
-use Rattle.ledger.specs.Money.{outcome_given, item, count, money, first_row, worth_by, LedgerOf, Payable}
+use Rattle.network.specs.Given.{outcome_given, item}
+use Rattle.ledger.specs.Money.{money, first_row, worth_by, LedgerOf, Payable}
 use Rattle.ledger.specs.Cleared.{LedgerIn}
 use Rattle.ledger.specs.declared.cleared.Cleared.{Cleared}
 use Rattle.ledger.specs.Promises.{TextSays}
@@ -35,7 +36,7 @@ rows_same (suc n) f g same = ap₂ ◌++◌ (rows_same n f g (λ k h. same k (om
 module _
     (m : Market) (o : Outcome) (ps l : List ℕ) (rules : KeepsRules m) (pay : Payable m o ps) (kept : LedgerOf m o ps l)
   where
-    money_read : (s : Sort) (k : ℕ) → k < count m s → to_z w64 (at l (first_row m s + k)) ≡ money m o ps (item s k)
+    money_read : (s : Sort) (k : ℕ) → k < count_of m s → to_z w64 (at l (first_row m s + k)) ≡ money m o ps (item s k)
     money_read s k h =
         ap (to_z w64) (kept.rows s k h)
         ∙ number_back (money m o ps (item s k))
@@ -43,10 +44,10 @@ module _
 
     rows_say :
         (s : Sort) →
-        rows (count m s) (λ k. item_row (wording s) k (carried o (item s k)) (to_z w64 (at l (first_row m s + k))))
+        rows (count_of m s) (λ k. item_row (wording s) k (carried o (item s k)) (to_z w64 (at l (first_row m s + k))))
         ≡ sort_rows m o ps s
     rows_say s =
-        rows_same (count m s) _ _ (λ k h. ap (item_row (wording s) k (carried o (item s k))) (money_read s k h))
+        rows_same (count_of m s) _ _ (λ k h. ap (item_row (wording s) k (carried o (item s k))) (money_read s k h))
 
 pub text_says : TextSays
 text_says m o ps l pushes rules pay kept =
@@ -70,13 +71,13 @@ zone_rows_say n ps zs long is =
 -- the parts of a cleared hour, each with its front of a list of amounts and its rows of the ledger
 module _ (c : Cleared) (l : List ℕ) (kept : LedgerIn c l) where
   pub item_rows_say :
-      (s : Sort) (xs ys : List ℕ) → length xs ≡ count (market_seen c.hour) s →
-      ((k : ℕ) → k < count (market_seen c.hour) s → at xs k ≡ carried (outcome_given c.amounts) (item s k)) →
-      ((k : ℕ) → k < count (market_seen c.hour) s → at ys k ≡ at l (first_row (market_seen c.hour) s + k)) →
+      (s : Sort) (xs ys : List ℕ) → length xs ≡ count_of (market_seen c.hour) s →
+      ((k : ℕ) → k < count_of (market_seen c.hour) s → at xs k ≡ carried (outcome_given c.amounts) (item s k)) →
+      ((k : ℕ) → k < count_of (market_seen c.hour) s → at ys k ≡ at l (first_row (market_seen c.hour) s + k)) →
       item_rows (wording s) (length xs) xs ys 0
       ≡ sort_rows (market_seen c.hour) (outcome_given c.amounts) c.prices.now s
   item_rows_say s xs ys long amounts rows =
-      rw long (rows_same (count (market_seen c.hour) s) _ _
+      rw long (rows_same (count_of (market_seen c.hour) s) _ _
       (λ k h.
       ap₂ (item_row (wording s) k) (amounts k h)
       (ap (λ (j : ℕ). to_z w64 (at ys j)) (zero-add k) ∙ ap (to_z w64) (rows k h)

@@ -2,7 +2,7 @@
 use Rattle.std.proofs.Common.{◌≡◌, ℕ, ◌+◌, ◌-◌, ◌<◌, ◌≤◌, ◌≢◌, List, ◌++◌, length, drop, set, ◌*◌, ◌^◌, refl, ℤ, ◌+ℤ◌, nat_abs, sym, ap, ◌∙◌, subst, ap₂, inl, inr, add-mul, add-one, zero-add, arith, w64, to_z, of_z}
 use Rattle.std.proofs.lemmas.List.{length-append, length-set, get_or-set_same, get_or-set_other, get_or_append_left, get_or-append-add}
 use Rattle.std.proofs.lemmas.Bool.{cases_lt}
-use Rattle.hour.specs.Market.{Market, at}
+use Rattle.hour.specs.Market.{Market, at, count_of}
 use Rattle.hour.specs.declared.refusals.Sort.{Sort}
 use Rattle.hour.specs.declared.refusals.Sort.TheVariants as sorts
 use Rattle.network.specs.declared.arcs.Item.{Item}
@@ -11,18 +11,19 @@ use Rattle.ledger.proofs.Limits.{rules_of, running_small, size_row, sum_bits, wi
 use Rattle.ledger.proofs.Size.{bits_back, number_back, size_add, sum_back}
 use Rattle.ledger.specs.Cleared.{money_in, LedgerIn}
 use Rattle.hour.specs.Seen.{market_seen}
-use Rattle.ledger.specs.Money.{outcome_given, item, count, sumℤ, first_row, row_count, sum_row}
+use Rattle.network.specs.Given.{outcome_given, item}
+use Rattle.ledger.specs.Money.{sumℤ, first_row, row_count, sum_row}
 use Rattle.ledger.specs.Written.{widest, Rows}
 use Rattle.ledger.specs.declared.cleared.Cleared.{Cleared}
 
 module _ (c : Cleared) (s : Sort) where
-  pub money_small : (k : ℕ) → k < count (market_seen c.hour) s → nat_abs (money_in c (item s k)) ≤ widest s
+  pub money_small : (k : ℕ) → k < count_of (market_seen c.hour) s → nat_abs (money_in c (item s k)) ≤ widest s
   money_small k below =
       size_row (market_seen c.hour) (outcome_given c.amounts) c.prices.now (rules_of c.hour) c.payable s k below
 
   -- the same passed on by its bits
   pub money_kept :
-      (k : ℕ) (i : Item) (z : ℤ) → k < count (market_seen c.hour) s → z ≡ money_in c i → i ≡ item s k →
+      (k : ℕ) (i : Item) (z : ℤ) → k < count_of (market_seen c.hour) s → z ≡ money_in c i → i ≡ item s k →
       nat_abs (to_z w64 (of_z w64 z)) ≤ widest s
   money_kept k i z below is here =
       let stands = is ∙ ap (money_in c) here in
@@ -31,7 +32,7 @@ module _ (c : Cleared) (s : Sort) where
 
   -- one more row, and a sum with it; a sort has few rows, so the sum stays small
   pub rows_more :
-      (n bits cell : ℕ) (l : List ℕ) (more : ℤ) → Rows c s n l (to_z w64 bits) → more ≡ money_in c (item s n) → nat_abs more ≤ widest s → n < count (market_seen c.hour) s → n < length l →
+      (n bits cell : ℕ) (l : List ℕ) (more : ℤ) → Rows c s n l (to_z w64 bits) → more ≡ money_in c (item s n) → nat_abs more ≤ widest s → n < count_of (market_seen c.hour) s → n < length l →
       cell ≡ of_z w64 (to_z w64 (of_z w64 more)) →
       Rows c s (n + 1) (set l n cell) (to_z w64 (of_z w64 (to_z w64 bits +ℤ to_z w64 (of_z w64 more))))
   rows_more n bits cell l more so_far is row_small below room written =
@@ -96,7 +97,7 @@ module _
     sums = set (set (set t 0 p) 1 g) 2 e
 
     row_written :
-        (o : Sort) (k : ℕ) → k < count m o → at (joined m b s l sums b_long s_long l_long) (first_row m o + k) ≡ of_z w64 (money_in c (item o k))
+        (o : Sort) (k : ℕ) → k < count_of m o → at (joined m b s l sums b_long s_long l_long) (first_row m o + k) ≡ of_z w64 (money_in c (item o k))
     row_written sorts.Buy k h =
         ap (at (joined m b s l sums b_long s_long l_long)) (zero-add k)
         ∙ get_or_append_left b (s ++ (l ++ sums)) 0 k (omega arith) ∙ buys.rows k (omega arith)
@@ -107,13 +108,13 @@ module _
         past_sells m b s l sums b_long s_long l_long k _ refl
         ∙ get_or_append_left l sums 0 k (omega arith) ∙ lines.rows k (omega arith)
 
-    bits : (o : Sort) (n : ℕ) (z : ℤ) → n ≡ count m o → nat_abs z ≤ n * widest o → of_z w64 (to_z w64 (of_z w64 z)) ≡ of_z w64 z
+    bits : (o : Sort) (n : ℕ) (z : ℤ) → n ≡ count_of m o → nat_abs z ≤ n * widest o → of_z w64 (to_z w64 (of_z w64 z)) ≡ of_z w64 z
     bits o n z same small = sum_bits m (rules_of c.hour) o z (subst (λ (i : ℕ). nat_abs z ≤ i * widest o) same small)
 
-    total_is : (o : Sort) (n : ℕ) (z : ℤ) → n ≡ count m o → z ≡ sumℤ n (λ k. money_in c (item o k)) → z ≡ sumℤ (count m o) (λ k. money_in c (item o k))
+    total_is : (o : Sort) (n : ℕ) (z : ℤ) → n ≡ count_of m o → z ≡ sumℤ n (λ k. money_in c (item o k)) → z ≡ sumℤ (count_of m o) (λ k. money_in c (item o k))
     total_is o n z same is = is ∙ ap (λ (i : ℕ). sumℤ i (λ k. money_in c (item o k))) same
 
-    sum_written : (o : Sort) → at (joined m b s l sums b_long s_long l_long) (sum_row m o) ≡ of_z w64 (sumℤ (count m o) (λ k. money_in c (item o k)))
+    sum_written : (o : Sort) → at (joined m b s l sums b_long s_long l_long) (sum_row m o) ≡ of_z w64 (sumℤ (count_of m o) (λ k. money_in c (item o k)))
     sum_written sorts.Buy =
         past_lines m b s l sums b_long s_long l_long 0 _ (omega arith)
         ∙ get_or-set_other (set (set t 0 p) 1 g) 2 0 e 0 (omega arith)

@@ -7,7 +7,8 @@
 use Rattle.std.specs.Prelude.{ℕ, ◌≤◌, List, length, ℤ}
 use Rattle.network.specs.declared.arcs.Item.{Item}
 use Rattle.hour.specs.Seen.{market_seen}
-use Rattle.ledger.specs.Money.{outcome_given, money, row_count, LedgerOf}
+use Rattle.network.specs.Given.{outcome_given}
+use Rattle.ledger.specs.Money.{money, row_count, LedgerOf}
 use Rattle.ledger.specs.Text.{result_of}
 use Rattle.ledger.specs.declared.cleared.Cleared.{Cleared}
 

@@ -1,6 +1,5 @@
 -- The money of an hour, in hundredths, below nothing too. Assumes nothing: these are definitions.
 --
---   Sort                buys, sells or lines; item s k is the k-th of a sort, count m s how many of it there are
 --   above, base         what the money of a unit lies between: for a bid, its zone's price and the price that stands for
 --                      no money; for a line, the price where it ends and the price where it begins
 --   owed a b x          x units at a less b
@@ -25,22 +24,9 @@ use Rattle.hour.specs.Total.{total}
 use Rattle.hour.specs.declared.refusals.Sort.{Sort}
 use Rattle.hour.specs.declared.refusals.Sort.TheVariants as sorts
 use Rattle.network.specs.Network.{carried}
-use Rattle.network.specs.Tables.{outcome_in}
+use Rattle.network.specs.Given.{item}
 use Rattle.network.specs.declared.arcs.Item.{Item}
 use Rattle.network.specs.declared.arcs.Item.TheVariants.{Buy, Sell, Line}
-use Rattle.network.specs.declared.tables.Amounts.{Amounts}
-
--- the outcome in lists of amounts
-abbrev pub outcome_given : Amounts → Outcome
-outcome_given o = outcome_in o.bought.now o.sold.now o.flow.now
-
-abbrev pub item : Sort → ℕ → Item
-item sorts.Buy k = Buy k
-item sorts.Sell k = Sell k
-item sorts.Line k = Line k
-
-abbrev pub count : Market → Sort → ℕ
-count = count_of
 
 abbrev pub above : Market → List ℕ → Item → ℕ
 above m ps (Buy k) = at ps (bid m.buys k).zone
@@ -63,7 +49,7 @@ sumℤ zero f = pos 0
 sumℤ (suc n) f = sumℤ n f +ℤ f n
 
 abbrev pub sum_of : Market → Outcome → List ℕ → Sort → ℤ
-sum_of m o ps s = sumℤ (count m s) (λ k. money m o ps (item s k))
+sum_of m o ps s = sumℤ (count_of m s) (λ k. money m o ps (item s k))
 
 abbrev pub row_count : Market → ℕ
 row_count m = length m.buys + length m.sells + length m.lines
@@ -79,7 +65,7 @@ sum_row m sorts.Sell = row_count m + 1
 sum_row m sorts.Line = row_count m + 2
 
 pub record LedgerOf (m : Market) (o : Outcome) (ps l : List ℕ) : Type 0 where
-  pub rows : (s : Sort) (k : ℕ) → k < count m s → at l (first_row m s + k) ≡ of_z w64 (money m o ps (item s k))
+  pub rows : (s : Sort) (k : ℕ) → k < count_of m s → at l (first_row m s + k) ≡ of_z w64 (money m o ps (item s k))
   pub sums : (s : Sort) → at l (sum_row m s) ≡ of_z w64 (sum_of m o ps s)
 
 abbrev pub asked : Market → Item → ℕ
@@ -89,7 +75,7 @@ asked m (Line k) = 0
 
 -- what the items of a sort are worth by their own prices
 abbrev pub worth_of : Market → Outcome → Sort → ℕ
-worth_of m o s = total (count m s) (λ k. asked m (item s k) * carried o (item s k))
+worth_of m o s = total (count_of m s) (λ k. asked m (item s k) * carried o (item s k))
 
 -- what is bought is worth, less what is sold
 abbrev pub worth_by : Market → Outcome → ℤ

@@ -15,13 +15,14 @@ use Rattle.std.specs.Prelude.{ℕ, ◌+◌, List, [], ◌∷◌, ◌++◌, lengt
 use Rattle.std.specs.Int.{w64}
 use Rattle.std.proofs.Common.{to_z}
 use Rattle.std.specs.Fmt.{signed_decimal}
-use Rattle.hour.specs.Market.{Market, Outcome, at}
+use Rattle.hour.specs.Market.{Market, Outcome, at, count_of}
 use Rattle.hour.specs.Text.{row, rows, money}
 use Rattle.hour.specs.declared.refusals.Sort.{Sort}
 use Rattle.hour.specs.declared.refusals.Sort.TheVariants as sorts
 use Rattle.network.specs.Network.{carried}
 use Rattle.ledger.specs.Money as ledger
-use Rattle.ledger.specs.Money.{item, count, worth_by}
+use Rattle.network.specs.Given.{item}
+use Rattle.ledger.specs.Money.{worth_by}
 
 pub record Wording : Type 0 where
   pub sort : List ℕ
@@ -69,7 +70,7 @@ counts_of m =
 
 abbrev pub sort_rows : Market → Outcome → List ℕ → Sort → List ℕ
 sort_rows m o ps s =
-    rows (count m s) (λ k. item_row (wording s) k (carried o (item s k)) (ledger.money m o ps (item s k)))
+    rows (count_of m s) (λ k. item_row (wording s) k (carried o (item s k)) (ledger.money m o ps (item s k)))
 
 abbrev pub result_of : Market → Outcome → List ℕ → ℕ → List ℕ
 result_of m o ps pushes =

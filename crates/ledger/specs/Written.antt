@@ -9,7 +9,8 @@ use Rattle.hour.specs.Market.{at}
 use Rattle.hour.specs.declared.refusals.Sort.{Sort}
 use Rattle.hour.specs.declared.refusals.Sort.TheVariants as sorts
 use Rattle.ledger.specs.Cleared.{money_in}
-use Rattle.ledger.specs.Money.{item, sumℤ}
+use Rattle.network.specs.Given.{item}
+use Rattle.ledger.specs.Money.{sumℤ}
 use Rattle.ledger.specs.declared.cleared.Cleared.{Cleared}
 
 abbrev pub widest : Sort → ℕ

@@ -1,6 +1,7 @@
 // An hour with an outcome that can be carried out, and prices that can be paid.
 ghost use Rattle.hour.specs.Seen.{market_seen};
-ghost use Rattle.ledger.specs.Money.{outcome_given, Payable};
+ghost use Rattle.network.specs.Given.{outcome_given};
+ghost use Rattle.ledger.specs.Money.{Payable};
 
 use hour::Hour;
 use network::Amounts;

@@ -11,6 +11,6 @@ mod text;
 mod worth;
 
 pub use entry::clear;
-pub use money::{amount_of, item_of, price_above, price_below};
+pub use money::{price_above, price_below};
 pub use publish::published;
 pub use worth::worth_in;

@@ -1,24 +1,14 @@
 // The money of one item: what a buyer pays, a seller gets, a line earns.
 ghost use Rattle.std.specs.Prelude.{◌≡◌, ◌≤◌};
 ghost use Rattle.hour.specs.Rules.{max_price, max_amount};
-ghost use Rattle.network.specs.Network.{Among, carried};
+ghost use Rattle.network.specs.Network.{Among};
 ghost use Rattle.hour.specs.Seen.{market_seen};
-ghost use Rattle.ledger.specs.Money.{outcome_given, above, base, owed, asked, item};
+ghost use Rattle.ledger.specs.Money.{above, base, owed, asked};
 ghost use Rattle.ledger.specs.Cleared.{money_in};
 
 use crate::cleared::Cleared;
-use hour::{Hour, Sort, ZERO_PRICE};
-use network::{Amounts, Item, number_at};
-
-pub fn item_of(sort: Sort, k: usize) -> Item
-    ensures { result ≡ item sort k }
-{
-    match sort {
-        Sort::Buy => Item::Buy(k),
-        Sort::Sell => Item::Sell(k),
-        Sort::Line => Item::Line(k),
-    }
-}
+use hour::{Hour, ZERO_PRICE};
+use network::{Item, number_at};
 
 // So many units at one price less another.
 fn owed(above: u64, base: u64, amount: u64) -> i64
@@ -51,16 +41,6 @@ pub fn price_below(hour: Hour<'_>, prices: &[u64], item: Item) -> u64
     }
 }
 
-pub fn amount_of(o: Amounts<'_>, item: Item) -> u64
-    ensures { result ≡ carried (outcome_given o.entry) item }
-{
-    match item {
-        Item::Buy(k) => number_at(o.bought, k),
-        Item::Sell(k) => number_at(o.sold, k),
-        Item::Line(k) => number_at(o.flow, k),
-    }
-}
-
 // The price that a bid has itself; a line has none.
 pub fn price_asked(hour: Hour<'_>, item: Item) -> u64
     requires { Among (market_seen hour) item }
@@ -81,7 +61,7 @@ impl Cleared<'_, '_, '_> {
         owed(
             price_above(self.hour, self.prices, item),
             price_below(self.hour, self.prices, item),
-            amount_of(self.amounts, item),
+            self.amounts.of(item),
         )
     }
 }

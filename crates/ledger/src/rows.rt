@@ -1,27 +1,29 @@
 // The rows of a ledger: one for each item, sort by sort, and then the three sums.
 ghost use Rattle.std.specs.Prelude.{◌≡◌, ◌+◌, ◌<◌, ◌≤◌, length, drop, unsigned_abs};
 ghost use Rattle.hour.specs.Seen.{market_seen};
-ghost use Rattle.ledger.specs.Money.{item, count, row_count};
+ghost use Rattle.network.specs.Given.{item};
+ghost use Rattle.hour.specs.Market.{count_of};
+ghost use Rattle.ledger.specs.Money.{row_count};
 ghost use Rattle.ledger.specs.Cleared.{money_in, LedgerIn};
 ghost use Rattle.ledger.specs.Written.{widest, Rows};
 
 use crate::cleared::Cleared;
-use crate::money::item_of;
 use hour::Sort;
+use network::Item;
 
 impl Cleared<'_, '_, '_> {
     // The money of the k-th item of a sort.
     fn row_money(self, sort: Sort, k: usize) -> i64
-        requires { k < count (market_seen self.hour) sort }
+        requires { k < count_of (market_seen self.hour) sort }
         ensures value { result ≡ money_in self.entry (item sort k) }
         ensures small { unsigned_abs result ≤ widest sort }
     {
-        self.money_of(item_of(sort, k))
+        self.money_of(Item::of(sort, k))
     }
 
     // The rows of one sort, each number as its two's complement; answers their sum.
     fn write_rows(self, sort: Sort, rows: &mut [u64]) -> i64
-        requires { length rows.old ≡ count (market_seen self.hour) sort }
+        requires { length rows.old ≡ count_of (market_seen self.hour) sort }
         ensures { Rows self.entry sort (length rows.new) rows.new result }
     {
         let mut sum: i64 = 0;

@@ -1,23 +1,24 @@
 // What an outcome is worth by the bids' own prices.
 ghost use Rattle.std.specs.Prelude.{◌≡◌, ◌*◌, ◌<◌, ◌≤◌};
-ghost use Rattle.hour.specs.Market.{Feasible};
+ghost use Rattle.hour.specs.Market.{Feasible, count_of};
 ghost use Rattle.network.specs.Network.{carried};
 ghost use Rattle.hour.specs.Seen.{market_seen};
-ghost use Rattle.ledger.specs.Money.{outcome_given, item, count, asked, worth_of, worth_by};
+ghost use Rattle.network.specs.Given.{outcome_given, item};
+ghost use Rattle.ledger.specs.Money.{asked, worth_of, worth_by};
 
-use crate::money::{amount_of, item_of, price_asked};
+use crate::money::price_asked;
 use hour::{Hour, Sort};
-use network::Amounts;
+use network::{Amounts, Item};
 
 // The k-th item of a sort at its own price.
 fn item_worth(hour: Hour<'_>, o: Amounts<'_>, sort: Sort, k: usize) -> u64
-    requires among { k < count (market_seen hour) sort }
+    requires among { k < count_of (market_seen hour) sort }
     requires feasible { Feasible (market_seen hour) (outcome_given o) }
     ensures value { result ≡ asked (market_seen hour.entry) (item sort k) * carried (outcome_given o.entry) (item sort k) }
     ensures small { result ≤ 400000000000 }
 {
-    let item = item_of(sort, k);
-    price_asked(hour, item) * amount_of(o, item)
+    let item = Item::of(sort, k);
+    price_asked(hour, item) * o.of(item)
 }
 
 // The items of one sort at their own prices.

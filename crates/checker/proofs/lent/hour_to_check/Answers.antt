@@ -1,7 +1,8 @@
 use Rattle.std.proofs.Common.{◌≡◌, Some, ◌∙◌, sym, rules}
 use Rattle.std.specs.Result.{result_err}
 use Rattle.hour.specs.declared.reading.Head.{Head}
-use Rattle.checker.specs.Acceptance.{outcome_given, lent_refusal}
+use Rattle.network.specs.Given.{outcome_given}
+use Rattle.checker.specs.Acceptance.{lent_refusal}
 use Rattle.checker.proofs.Lending.{head_refused, slice_refused, item_refused}
 use Rattle.checker.proofs.lent.hour_to_check.Goals as goal
 

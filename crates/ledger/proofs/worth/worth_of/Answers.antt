@@ -1,7 +1,7 @@
 -- A sort has at most 1,000 items.
 use Rattle.std.proofs.Common.{arith}
 use Rattle.hour.specs.Seen.{market_seen}
-use Rattle.ledger.specs.Money.{outcome_given}
+use Rattle.network.specs.Given.{outcome_given}
 use Rattle.ledger.proofs.Limits.{rules_of, worth_to_small, count_small}
 use Rattle.ledger.proofs.worth.worth_of.Goals as goal
 

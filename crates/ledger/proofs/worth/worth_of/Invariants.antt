@@ -1,7 +1,7 @@
 -- The sum is the worth of the first k items of the sort.
 use Rattle.std.proofs.Common.{◌≡◌}
 use Rattle.hour.specs.Seen.{market_seen}
-use Rattle.ledger.specs.Money.{outcome_given}
+use Rattle.network.specs.Given.{outcome_given}
 use Rattle.ledger.proofs.Limits.{worth_to}
 use Rattle.ledger.proofs.worth.worth_of.Given as goal
 

@@ -1,7 +1,8 @@
 use Rattle.std.proofs.Common.{◌≡◌, None}
 use Rattle.hour.specs.Seen.{market_seen}
 use Rattle.hour.specs.First.{first}
-use Rattle.checker.specs.Acceptance.{outcome_given, zone_broken}
+use Rattle.network.specs.Given.{outcome_given}
+use Rattle.checker.specs.Acceptance.{zone_broken}
 use Rattle.checker.proofs.claim.Claim.check_zones.Given as goal
 
 abbrev pub invariant-loop-z : goal.invariant-loop-z

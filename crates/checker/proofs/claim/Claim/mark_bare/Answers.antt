@@ -1,6 +1,6 @@
 use Rattle.std.proofs.Common.{sym, arith}
 use Rattle.hour.specs.Seen.{market_seen}
-use Rattle.checker.specs.Acceptance.{outcome_given}
+use Rattle.network.specs.Given.{outcome_given}
 use Rattle.checker.proofs.Marking.{marked_more, marked_all, bare_falls}
 use Rattle.checker.proofs.Rules.{proper_seen}
 use Rattle.checker.proofs.claim.Claim.mark_bare.Goals as goal

@@ -1,5 +1,5 @@
 use Rattle.hour.specs.Seen.{market_seen}
-use Rattle.checker.specs.Acceptance.{outcome_given}
+use Rattle.network.specs.Given.{outcome_given}
 use Rattle.checker.proofs.Marking.{Sofar, bare}
 use Rattle.checker.proofs.claim.Claim.mark_bare.Given as goal
 

@@ -2,7 +2,8 @@ use Rattle.std.proofs.Common.{◌≡◌, ◌-◌, ◌*◌, ◌^◌, ◌≤◌}
 use Rattle.hour.specs.Seen.{market_seen}
 use Rattle.hour.specs.Market.{at}
 use Rattle.hour.specs.Total.{tagged}
-use Rattle.checker.specs.Acceptance.{outcome_given, side_amounts, side_zone}
+use Rattle.network.specs.Given.{outcome_given}
+use Rattle.checker.specs.Acceptance.{side_amounts, side_zone}
 use Rattle.checker.proofs.claim.Claim.side_total.Given as goal
 
 abbrev pub invariant-loop-k : goal.invariant-loop-k

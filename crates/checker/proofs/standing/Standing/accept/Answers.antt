@@ -1,5 +1,5 @@
 use Rattle.hour.specs.Seen.{market_seen}
-use Rattle.checker.specs.Acceptance.{outcome_given}
+use Rattle.network.specs.Given.{outcome_given}
 use Rattle.checker.proofs.Rules.{proper_seen}
 use Rattle.checker.proofs.Told.{accepted_with}
 use Rattle.checker.proofs.standing.Standing.accept.Goals as goal

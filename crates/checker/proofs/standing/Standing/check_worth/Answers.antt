@@ -1,5 +1,5 @@
 use Rattle.hour.specs.Seen.{market_seen}
-use Rattle.checker.specs.Acceptance.{outcome_given}
+use Rattle.network.specs.Given.{outcome_given}
 use Rattle.checker.proofs.Breaches.{feasible_from_none}
 use Rattle.checker.proofs.standing.Standing.check_worth.Goals as goal
 

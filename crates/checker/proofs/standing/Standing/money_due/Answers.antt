@@ -2,7 +2,7 @@
 use Rattle.std.proofs.Common.{arith}
 use Rattle.hour.specs.Seen.{market_seen}
 use Rattle.ledger.proofs.Limits.{rules_of, carried_small}
-use Rattle.checker.specs.Acceptance.{outcome_given}
+use Rattle.network.specs.Given.{outcome_given}
 use Rattle.checker.proofs.Breaches.{feasible_from_none}
 use Rattle.checker.proofs.standing.Standing.money_due.Goals as goal
 
@@ -13,7 +13,7 @@ owed-requires c =
     let o = outcome_given claim.amounts in
     omega (
       arith,
-      c.amount_of.ensures,
+      c.of.ensures,
       carried_small m (rules_of claim.hour) o (feasible_from_none m o claim.prices.now c.args.self.free)
           c.args.item c.requires,
     )

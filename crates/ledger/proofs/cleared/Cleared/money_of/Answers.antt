@@ -1,7 +1,7 @@
 -- The rules of the hour limit prices and amounts.
 use Rattle.std.proofs.Common.{arith}
 use Rattle.hour.specs.Seen.{market_seen}
-use Rattle.ledger.specs.Money.{outcome_given}
+use Rattle.network.specs.Given.{outcome_given}
 use Rattle.ledger.proofs.Limits.{rules_of, above_small, base_small, carried_small}
 use Rattle.ledger.proofs.cleared.Cleared.money_of.Goals as goal
 
@@ -16,6 +16,6 @@ owed-requires c =
       omega (arith, c.price_above.ensures, above_small m o this.prices.now rules pay c.args.item among),
       (
         omega (arith, c.price_below.ensures, base_small m o this.prices.now rules pay c.args.item among),
-        omega (arith, c.amount_of.ensures, carried_small m rules o pay.feasible c.args.item among),
+        omega (arith, c.of.ensures, carried_small m rules o pay.feasible c.args.item among),
       ),
     )

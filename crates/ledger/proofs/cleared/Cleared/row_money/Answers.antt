@@ -4,5 +4,5 @@ use Rattle.ledger.proofs.cleared.Cleared.row_money.Goals as goal
 
 pub returns-clause-small : goal.returns-clause-small
 returns-clause-small c =
-    money_kept c.args.self c.args.sort c.args.k c.item_of.result c.money_of.result c.requires c.money_of.ensures
-    c.item_of.ensures
+    money_kept c.args.self c.args.sort c.args.k c.of.result c.money_of.result c.requires c.money_of.ensures
+    c.of.ensures
