@@ -61,7 +61,8 @@ pub fn look_at_buys(given: Given, ways: &mut [Way])
     }
 }
 
-// Sells take back what they have, and give what they have left.
+// Sells take back what they have, and give what they have left. One loop for both sorts would take as parameters the table, the
+// amounts, the first number and which of the two tests is which.
 pub fn look_at_sells(given: Given, ways: &mut [Way])
     requires { Looked given.tables given.amounts (items given.tables.buys.now) ways.old }
     ensures { Looked given.entry.tables given.entry.amounts (items given.entry.tables.buys.now + items given.entry.tables.sells.now) ways.new }
