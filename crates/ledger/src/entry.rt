@@ -47,6 +47,7 @@ fn check_hour(bytes: &[u8], has: Lengths, ledger: usize, work: usize) -> Result<
 }
 
 // Clears an hour that keeps the rules and writes its ledger, in slices that are long enough. Answers how many pushes there were.
+// The slices stay apart as the caller lends them: one value that holds six `&mut` needs a clause for each on what it gives back.
 fn clear_and_book(
     hour: Hour<'_>,
     bought: &mut [u64],

@@ -21,7 +21,7 @@ fn item_worth(hour: Hour<'_>, o: Amounts<'_>, sort: Sort, k: usize) -> u64
     price_asked(hour, item) * o.of(item)
 }
 
-// The items of one sort at their own prices.
+// The items of one sort at their own prices. The sum is a loop: of a mapped `sum` it is not proved that the total fits 64 bits.
 fn worth_of(hour: Hour<'_>, o: Amounts<'_>, sort: Sort) -> u64
     requires { Feasible (market_seen hour) (outcome_given o) }
     ensures value { result ≡ worth_of (market_seen hour.entry) (outcome_given o.entry) sort }

@@ -86,7 +86,8 @@ fn check_tables(t: Tables, has: Lengths, work: usize) -> Result<(), Refusal>
 }
 
 // Clears a market in tables, zone, price, amount of each bid and from, to, capacity of each line, beginning with nothing. Lent slices may be
-// longer than needed. On a refusal nothing is changed; else the work slice is left at zeros as far as it is needed.
+// longer than needed. On a refusal nothing is changed; else the work slice is left at zeros as far as it is needed. The slices stay apart as
+// they are lent: one value that holds five `&mut` needs a clause for each on what it gives back.
 pub fn clear<'a>(
     zones: u64,
     buys: &'a [u64],
