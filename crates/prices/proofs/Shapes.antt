@@ -1,5 +1,5 @@
--- Tables that break no rule are those of a market that keeps them, with slices that are long enough. Assumes nothing.
-use Rattle.std.proofs.Common.{◌≡◌, ℕ, ◌+◌, ◌*◌, ◌<◌, ◌≤◌, eqb, List, length, Some, None, Option, sym, ap, ◌∙◌, pos_of_ne-zero, arith}
+-- Tables that break no rule are those of a market that keeps them. Assumes nothing.
+use Rattle.std.proofs.Common.{◌≡◌, ℕ, ◌+◌, ◌<◌, ◌≤◌, eqb, List, length, Some, None, Option, sym, ap, ◌∙◌, pos_of_ne-zero, arith}
 use Rattle.std.proofs.lemmas.Bool.{eqb-false, ltb-false, or_parts}
 use Rattle.hour.proofs.First.{else_none_left, else_none_right, when_none}
 use Rattle.hour.proofs.Kept.{bids_kept, lines_kept}
@@ -12,8 +12,7 @@ use Rattle.hour.specs.declared.refusals.Refusal.{Refusal}
 use Rattle.hour.specs.declared.rules.Lengths.{Lengths}
 use Rattle.network.proofs.Rows.{length_bids_in, length_lines_in}
 use Rattle.network.specs.Tables.{items, bids_in, lines_in, market_in}
-use Rattle.prices.specs.Ended.{layout_fault, slices_fault, tables_fault, lengths}
-use Rattle.prices.specs.Found.{Roomy}
+use Rattle.prices.specs.Ended.{layout_fault, slices_fault, tables_fault}
 
 -- the items' faults, with the counts as the tables have them
 pub items_counted :
@@ -52,27 +51,3 @@ tables_kept z buys sells lines has work none =
     rules_kept (market_in z buys sells lines)
     (rw (length_bids_in buys, length_bids_in sells, length_lines_in lines) (else_none_left _ _ layout))
     (else_none_right (slices_fault z buys sells lines has work) _ later)
-
--- the slices are long enough
-module _
-    (z : ℕ) (buys sells lines bought sold flow price : List ℕ) (work : ℕ)
-    (none :
-    tables_fault z buys sells lines (lengths (length bought) (length sold) (length flow) (length price)) work ≡ None)
-  where
-    slices : slices_fault z buys sells lines (lengths (length bought) (length sold) (length flow) (length price)) work ≡ None
-    slices = else_none_left _ _ (else_none_right (layout_fault z buys sells lines) _ none)
-
-    pub tables_room : Roomy (items buys) (items sells) (items lines) z bought sold flow price
-    tables_room =
-        let results = else_none_left _ _ slices in
-        let after_bought = else_none_right _ _ results in
-        let after_sold = else_none_right _ _ after_bought in
-        record {
-          bought_room = ltb-false _ _ (when_none _ _ (else_none_left _ _ results));
-          sold_room = ltb-false _ _ (when_none _ _ (else_none_left _ _ after_bought));
-          flow_room = ltb-false _ _ (when_none _ _ (else_none_left _ _ after_sold));
-          price_room = ltb-false _ _ (when_none _ _ (else_none_right _ _ after_sold));
-        }
-
-    pub work_room : 64 * (items buys + items sells + items lines) ≤ work
-    work_room = ltb-false _ _ (when_none _ _ (else_none_right _ _ slices))
