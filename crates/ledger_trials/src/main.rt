@@ -7,26 +7,11 @@ mod sums;
 
 use crate::lending::{closing_word, one_short};
 use crate::sums::largest_hour;
-use hour::{Fault, read_file, status, tell, write_answer};
+use hour::{Fault, status, tell, write_answer};
 use ledger::published;
 use lent::Slice;
+use samples::{ODD, REFUSED, WORKED, refused, sample};
 use std::process::ExitCode;
-
-const REFUSED: u64 = 54;
-
-const WORKED: [&str; 9] = ["A", "A1", "B", "C", "D", "E", "F", "G", "takeback"];
-
-const ODD: [&str; 9] = [
-    "nobids",
-    "onebuy",
-    "onesell",
-    "oneline",
-    "emptyzones",
-    "zeroline",
-    "selfline",
-    "parallel",
-    "alternating",
-];
 
 // Buys and sells of the largest hours: all are served at the lowest price, or one buy too many holds the highest.
 const LARGEST: [(usize, usize); 2] = [(1_000, 1_000), (1_000, 999)];
@@ -34,7 +19,7 @@ const LARGEST: [(usize, usize); 2] = [(1_000, 1_000), (1_000, 999)];
 fn refused_hours(rt: &HostRuntime) -> Result<(), Fault> {
     let heap = rt.alloc();
     for n in 0..REFUSED {
-        let bytes = read_file(rt, format!(in heap; "refused/{n:03}.bin")?)?;
+        let bytes = refused(rt, n)?;
         let text = published(heap, bytes.as_slice())?;
         write_answer(rt, format!(in heap; "{n:03} {text}")?.as_str())?;
     }
@@ -45,7 +30,7 @@ fn refused_hours(rt: &HostRuntime) -> Result<(), Fault> {
 fn sample_hours(rt: &HostRuntime, kind: &str, names: &[&str]) -> Result<(), Fault> {
     let heap = rt.alloc();
     for name in names {
-        let bytes = read_file(rt, format!(in heap; "{kind}/{name}.bin")?)?;
+        let bytes = sample(rt, kind, name)?;
         let result = published(heap, bytes.as_slice())?;
         let closes = closing_word(heap, bytes.as_slice())?;
         write_answer(
@@ -77,7 +62,7 @@ fn largest_hours(rt: &HostRuntime) -> Result<(), Fault> {
 
 fn short_slices(rt: &HostRuntime) -> Result<(), Fault> {
     let heap = rt.alloc();
-    let bytes = read_file(rt, format!(in heap; "worked/E.bin")?)?;
+    let bytes = sample(rt, "worked", "E")?;
     for (number, slice) in Slice::ALL.iter().enumerate() {
         let said = one_short(heap, bytes.as_slice(), *slice)?;
         write_answer(

@@ -7,26 +7,11 @@ mod limits;
 
 use crate::copies::written_back;
 use crate::limits::{Counts, hour_of};
-use hour::{Fault, Hour, listing, read_file, status, tell, write_answer};
+use hour::{Fault, Hour, listing, status, tell, write_answer};
 use prices::published_text;
+use samples::{ODD, REFUSED, WORKED, refused, sample};
 use std::alloc::{AllocError, Global};
 use std::process::ExitCode;
-
-const REFUSED: u64 = 54;
-
-const WORKED: [&str; 9] = ["A", "A1", "B", "C", "D", "E", "F", "G", "takeback"];
-
-const ODD: [&str; 9] = [
-    "nobids",
-    "onebuy",
-    "onesell",
-    "oneline",
-    "emptyzones",
-    "zeroline",
-    "selfline",
-    "parallel",
-    "alternating",
-];
 
 const LIMITS: [Counts; 6] = [
     Counts {
@@ -70,7 +55,7 @@ const LIMITS: [Counts; 6] = [
 fn refused_hours(rt: &HostRuntime) -> Result<(), Fault> {
     let heap = rt.alloc();
     for n in 0..REFUSED {
-        let bytes = read_file(rt, format!(in heap; "refused/{n:03}.bin")?)?;
+        let bytes = refused(rt, n)?;
         let text = listing(heap, bytes.as_slice())?;
         write_answer(rt, format!(in heap; "{n:03} {text}")?.as_str())?;
     }
@@ -88,7 +73,7 @@ fn copy_word(written_back: bool) -> &'static str {
 fn worked_hours(rt: &HostRuntime) -> Result<(), Fault> {
     let heap = rt.alloc();
     for name in WORKED {
-        let bytes = read_file(rt, format!(in heap; "worked/{name}.bin")?)?;
+        let bytes = sample(rt, "worked", name)?;
         let text = listing(heap, bytes.as_slice())?;
         let copied = copy_word(written_back(heap, bytes.as_slice())?);
         let result = published_text(heap, bytes.as_slice())?;
@@ -103,7 +88,7 @@ fn worked_hours(rt: &HostRuntime) -> Result<(), Fault> {
 fn odd_hours(rt: &HostRuntime) -> Result<(), Fault> {
     let heap = rt.alloc();
     for name in ODD {
-        let bytes = read_file(rt, format!(in heap; "odd/{name}.bin")?)?;
+        let bytes = sample(rt, "odd", name)?;
         let result = published_text(heap, bytes.as_slice())?;
         write_answer(rt, format!(in heap; "odd {name}\n{result}")?.as_str())?;
     }
