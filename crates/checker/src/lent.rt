@@ -10,7 +10,8 @@ ghost use Rattle.checker.specs.Marks.{refusal_to_mark};
 use hour::{Head, Hour, Refusal, check_items, check_lent, read_head};
 use network::Amounts;
 
-// The first lent slice that is too short for an hour with this head.
+// The first lent slice that is too short for an hour with this head. Amounts and prices are two parameters here: there is no hour
+// yet for which they could be claimed.
 fn check_slices(head: Head, amounts: Amounts, prices: &[u64]) -> Result<(), Refusal>
     ensures { result_err result ≡ lent_refusal head (outcome_given amounts.entry) prices.now }
 {

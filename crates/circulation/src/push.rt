@@ -16,7 +16,7 @@ use network::{Amounts, Item, Step, Tables};
 use paths::{Way, way_at};
 
 // An item carries so much. The lists of amounts are three parameters, here and above: of a struct that lends them each function
-// would have to say besides that its fields still lend the same.
+// would have to say besides that its fields still lend the same. So what is required of tables and lists together stands in each.
 #[tactic(auto, using(network::proofs::Weighed::put_set))]
 fn carry(item: Item, amount: u64, bought: &mut [u64], sold: &mut [u64], flow: &mut [u64])
     requires { Placed bought.old sold.old flow.old item }
@@ -66,6 +66,7 @@ pub fn push(
     ensures { outcome_in bought.new sold.new flow.new ≡ pushed (outcome_in bought.old sold.old flow.old) (closed_way (market_given t.entry) (plan_of ways.now) v) d }
 {
     move_along(t, step_in(t, ways, v), d, bought, sold, flow);
+    // The zone moves with each step: the way is walked, as long as it says, and not gone over as a list.
     let mut zone = v;
     let lines = way_at(ways, v).far;
     for k in 0..lines {

@@ -18,6 +18,7 @@ fn narrowest(t: Tables, o: Amounts, ways: &[Way], v: usize) -> u64
     ensures { result ≡ bottleneck (market_given t.entry) (outcome_given o.entry) (closed_way (market_given t.entry) (plan_of ways.now) v) }
 {
     let mut least = room_for(t, o, step_in(t, ways, v));
+    // Walked as in `push`, by each step's end.
     let mut zone = v;
     let lines = way_at(ways, v).far;
     for k in 0..lines {

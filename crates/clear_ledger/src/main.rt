@@ -7,6 +7,7 @@ use hour::{
 use ledger::published;
 use std::process::ExitCode;
 
+// The same few lines as in `clear`: what a file gives no clause can say, so one function for both would have no contract.
 fn run(rt: &HostRuntime) -> Result<(), Fault> {
     let bytes = match one_named(arguments(rt)?)? {
         Some(name) => read_file(rt, name)?,

@@ -7,7 +7,7 @@ pub mod settled;
 pub mod tables;
 
 pub use arcs::{Item, Step};
-pub use tables::{Amounts, Row, Tables, item_at, number_at, row_at, row_in, worth_of};
+pub use tables::{Amounts, Row, Tables, item_at, number_at, row_at, row_count, row_in, worth_of};
 
 #[cfg(test)]
 mod tests;

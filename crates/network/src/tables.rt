@@ -51,6 +51,13 @@ impl Amounts<'_> {
     }
 }
 
+// How many rows a table has.
+pub fn row_count(table: &[u64]) -> usize
+    ensures { result ≡ items table.now }
+{
+    table.len() / 3
+}
+
 fn cell(table: &[u64], item: usize, column: usize) -> u64
     requires { (item < items table.now) × (column < 3) }
     ensures { result ≡ cell table.now item column }
@@ -98,7 +105,7 @@ pub fn row_in<R: Row>(table: &[u64], k: usize) -> R
 pub fn row_at<R: Row>(table: &[u64], k: usize) -> R
     ensures { result ≡ nth_row R.made table.now k }
 {
-    if k < table.len() / 3 {
+    if k < row_count(table) {
         row_in(table, k)
     } else {
         R::of(0, 0, 0)
@@ -109,8 +116,8 @@ pub fn row_at<R: Row>(table: &[u64], k: usize) -> R
 pub fn item_at(t: Tables, k: usize) -> Item
     ensures { result ≡ nth (items t.entry.buys.now) (items t.entry.sells.now) k }
 {
-    let buys = t.buys.len() / 3;
-    let sells = t.sells.len() / 3;
+    let buys = row_count(t.buys);
+    let sells = row_count(t.sells);
     if k < buys {
         Item::Buy(k)
     } else if k - buys < sells {
@@ -123,10 +130,11 @@ pub fn item_at(t: Tables, k: usize) -> Item
 pub fn item_count(t: Tables) -> usize
     ensures { result ≡ items t.entry.buys.now + items t.entry.sells.now + items t.entry.lines.now }
 {
-    t.buys.len() / 3 + t.sells.len() / 3 + t.lines.len() / 3
+    row_count(t.buys) + row_count(t.sells) + row_count(t.lines)
 }
 
-// What amounts are worth at the prices of their bids; none where that is too large for 128 bits.
+// What amounts are worth at the prices of their bids; none where that is too large for 128 bits. By number, here and below: a row is
+// three numbers of one list, and its amount a number of another, which may be shorter.
 pub fn bids_worth(bids: &[u64], amounts: &[u64]) -> Option<u128>
     ensures { SomeIff
         result
@@ -134,7 +142,7 @@ pub fn bids_worth(bids: &[u64], amounts: &[u64]) -> Option<u128>
         (worth (bids_in bids.now) amounts.now) }
 {
     let mut sum: u128 = 0;
-    for k in 0..bids.len() / 3 {
+    for k in 0..row_count(bids) {
         let bid: Bid = row_in(bids, k);
         sum = sum.checked_add(bid.price as u128 * number_at(amounts, k) as u128)?;
     }
@@ -171,7 +179,7 @@ fn zone_total(table: &[u64], column: usize, zone: u64, amounts: &[u64]) -> u128
     ensures small { result ≤ (2 ^ 64 - 1) * items table.now }
 {
     let mut sum: u128 = 0;
-    for k in 0..table.len() / 3 {
+    for k in 0..row_count(table) {
         if cell(table, k, column) == zone {
             sum += number_at(amounts, k) as u128;
         }

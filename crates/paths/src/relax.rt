@@ -9,7 +9,7 @@ ghost use Rattle.paths.specs.Ways.{way_at, way_better, over_line, worths, fars};
 use crate::given::Given;
 use crate::ways::Way;
 use hour::Line;
-use network::row_in;
+use network::{row_count, row_in};
 
 // The way over a line from v to w is taken where it is better than the one that v has. Answers how many labels rose.
 fn raise(ways: &mut [Way], v: usize, w: usize) -> u64
@@ -65,7 +65,7 @@ fn round(given: Given, from_last: bool, ways: &mut [Way]) -> u64
     ensures raised { Raised given.entry.tables given.entry.amounts ways.old result ways.new }
     ensures relaxed { result ≡ 0 → (l : ℕ) → l < items given.entry.tables.lines.now → Relaxed (market_given given.entry.tables) (outcome_given given.entry.amounts) (worths ways.new) (fars ways.new) l }
 {
-    let lines = given.tables.lines.len() / 3;
+    let lines = row_count(given.tables.lines);
     let mut rose = 0;
     for k in 0..lines {
         rose += relax(given, turn(from_last, lines, k), ways);

@@ -16,7 +16,7 @@ use crate::relax::settle;
 use crate::takers::{look_at_buys, look_at_sells};
 use crate::ways::Way;
 use hour::Line;
-use network::{Amounts, Tables, row_in};
+use network::{Amounts, Tables, row_count, row_in};
 
 // Whether line l leads from zone v, through what is left free, to a zone with a way worth as much, over one line less.
 fn leads_onward(given: Given, ways: &[Way], v: usize, l: usize) -> bool
@@ -42,13 +42,13 @@ fn ways_out(given: Given, ways: &mut [Way])
     ensures out { (v : ℕ) → v < given.entry.tables.zones → at (outs ways.new) v ≡ out_no (market_given given.entry.tables) (outcome_given given.entry.amounts) (worths ways.new) (fars ways.new) v }
     ensures others { KeepsAllButOut ways.old ways.new }
 {
-    let bids = (given.tables.buys.len() / 3 + given.tables.sells.len() / 3) as u64;
+    let bids = (row_count(given.tables.buys) + row_count(given.tables.sells)) as u64;
     'zones: for v in 0..ways.len() {
         if ways[v].far == 0 {
             continue;
         }
         ways[v].out = 0;
-        for l in 0..given.tables.lines.len() / 3 {
+        for l in 0..row_count(given.tables.lines) {
             if leads_onward(given, ways, v, l) {
                 ways[v].out = bids + l as u64 + 1;
                 continue 'zones;

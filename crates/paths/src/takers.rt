@@ -6,7 +6,7 @@ ghost use Rattle.paths.specs.Search.{Looks, Looked};
 use crate::given::Given;
 use crate::ways::Way;
 use hour::Bid;
-use network::row_in;
+use network::{row_count, row_in};
 
 // A zone's best taker yields to a dearer one, and its best giver to a cheaper one; so the first among equals stays.
 impl Way {
@@ -54,7 +54,7 @@ pub fn look_at_buys(given: Given, ways: &mut [Way])
     requires { Looked given.tables given.amounts 0 ways.old }
     ensures { Looked given.entry.tables given.entry.amounts (items given.entry.tables.buys.now) ways.new }
 {
-    for k in 0..given.tables.buys.len() / 3 {
+    for k in 0..row_count(given.tables.buys) {
         let bid: Bid = row_in(given.tables.buys, k);
         let has = given.amounts.bought[k];
         look(given, k as u64, bid, has < bid.amount, 0 < has, ways);
@@ -67,8 +67,8 @@ pub fn look_at_sells(given: Given, ways: &mut [Way])
     requires { Looked given.tables given.amounts (items given.tables.buys.now) ways.old }
     ensures { Looked given.entry.tables given.entry.amounts (items given.entry.tables.buys.now + items given.entry.tables.sells.now) ways.new }
 {
-    let buys = given.tables.buys.len() / 3;
-    for k in 0..given.tables.sells.len() / 3 {
+    let buys = row_count(given.tables.buys);
+    for k in 0..row_count(given.tables.sells) {
         let bid: Bid = row_in(given.tables.sells, k);
         let has = given.amounts.sold[k];
         look(

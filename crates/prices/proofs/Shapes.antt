@@ -1,14 +1,11 @@
 -- Tables that break no rule are those of a market that keeps them. Assumes nothing.
-use Rattle.std.proofs.Common.{◌≡◌, ℕ, ◌+◌, ◌<◌, ◌≤◌, eqb, List, length, Some, None, Option, sym, ap, ◌∙◌, pos_of_ne-zero, arith}
+use Rattle.std.proofs.Common.{◌≡◌, ℕ, ◌+◌, eqb, List, length, None, sym, pos_of_ne-zero}
 use Rattle.std.proofs.lemmas.Bool.{eqb-false, ltb-false, or_parts}
 use Rattle.hour.proofs.First.{else_none_left, else_none_right, when_none}
 use Rattle.hour.proofs.Kept.{bids_kept, lines_kept}
-use Rattle.hour.specs.First.{first, ◌else◌}
-use Rattle.hour.specs.Market.{Market, bid, line}
-use Rattle.hour.specs.Rules.{bid_fault, line_fault, bid_place, line_place, bids_fault, all_lines_fault, counts_fault, item_fault, KeepsRules}
-use Rattle.hour.specs.declared.items.Bid.{Bid}
-use Rattle.hour.specs.declared.items.Line.{Line}
-use Rattle.hour.specs.declared.refusals.Refusal.{Refusal}
+use Rattle.hour.specs.First.{◌else◌}
+use Rattle.hour.specs.Market.{Market}
+use Rattle.hour.specs.Rules.{bids_fault, all_lines_fault, counts_fault, item_fault, KeepsRules}
 use Rattle.hour.specs.declared.rules.Lengths.{Lengths}
 use Rattle.network.proofs.Rows.{length_bids_in, length_lines_in}
 use Rattle.network.specs.Tables.{items, bids_in, lines_in, market_in}
@@ -16,11 +13,11 @@ use Rattle.prices.specs.Ended.{layout_fault, slices_fault, tables_fault}
 
 -- the items' faults, with the counts as the tables have them
 pub items_counted :
-    (z : ℕ) (buys sells lines : List ℕ) →
-    (bids_fault z 0 (bids_in buys) else bids_fault z (items buys) (bids_in sells)
-    else all_lines_fault z (items buys + items sells) (lines_in lines))
+    (z : ℕ) (buys sells lines : List ℕ) (b s : ℕ) → b ≡ items buys → s ≡ items sells →
+    (bids_fault z 0 (bids_in buys) else bids_fault z b (bids_in sells) else all_lines_fault z (b + s) (lines_in lines))
     ≡ item_fault (market_in z buys sells lines)
-items_counted z buys sells lines = sym (rw (length_bids_in buys, length_bids_in sells))
+items_counted z buys sells lines b s buy_rows sell_rows =
+    rw (buy_rows, sell_rows) (sym (rw (length_bids_in buys, length_bids_in sells)))
 
 -- what counts and items that break no rule say of a market
 pub rules_kept :

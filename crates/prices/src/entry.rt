@@ -10,7 +10,7 @@ ghost use Rattle.prices.specs.Ended.{lengths, slices_fault, tables_fault, Small}
 
 use crate::tables::clear_tables;
 use hour::{Bid, Entry, Lengths, Line, Refusal, check_counts, check_lent, check_results};
-use network::{Row, Tables, row_in};
+use network::{Row, Tables, row_count, row_in};
 
 // A table has three numbers for each item.
 fn check_table(table: &[u64]) -> Result<(), Refusal>
@@ -27,7 +27,7 @@ fn check_each<E: Entry + Row>(zones: u64, bids: usize, table: &[u64]) -> Result<
     requires { E.place bids (items table.now) < 2 ^ 64 }
     ensures { result_err result ≡ first (length (rows_in E.made table.now)) (λ k. E.fault zones (E.place bids k) (nth_row E.made table.now k)) }
 {
-    for k in 0..table.len() / 3 {
+    for k in 0..row_count(table) {
         row_in::<E>(table, k).check(zones, E::place(bids, k))?;
     }
     Ok(())
@@ -37,9 +37,9 @@ fn check_each<E: Entry + Row>(zones: u64, bids: usize, table: &[u64]) -> Result<
 fn check_layout(t: Tables) -> Result<(), Refusal>
     ensures { result_err result ≡ layout_fault t.entry.zones t.entry.buys.now t.entry.sells.now t.entry.lines.now }
 {
-    let buys = t.buys.len() / 3;
-    let sells = t.sells.len() / 3;
-    let lines = t.lines.len() / 3;
+    let buys = row_count(t.buys);
+    let sells = row_count(t.sells);
+    let lines = row_count(t.lines);
     check_counts(t.zones, buys as u64, sells as u64, lines as u64)?;
     check_table(t.buys)?;
     check_table(t.sells)?;
@@ -51,9 +51,9 @@ fn check_slices(t: Tables, has: Lengths, work: usize) -> Result<(), Refusal>
     requires { Small t.buys.now t.sells.now t.lines.now }
     ensures { result_err result ≡ slices_fault t.entry.zones t.entry.buys.now t.entry.sells.now t.entry.lines.now has work }
 {
-    let buys = t.buys.len() / 3;
-    let sells = t.sells.len() / 3;
-    let lines = t.lines.len() / 3;
+    let buys = row_count(t.buys);
+    let sells = row_count(t.sells);
+    let lines = row_count(t.lines);
     let needed = Lengths {
         bought: buys,
         sold: sells,
@@ -69,8 +69,8 @@ fn check_items(t: Tables) -> Result<(), Refusal>
     requires { Small t.buys.now t.sells.now t.lines.now }
     ensures { result_err result ≡ item_fault (market_given t.entry) }
 {
-    let buys = t.buys.len() / 3;
-    let sells = t.sells.len() / 3;
+    let buys = row_count(t.buys);
+    let sells = row_count(t.sells);
     check_each::<Bid>(t.zones, 0, t.buys)?;
     check_each::<Bid>(t.zones, buys, t.sells)?;
     check_each::<Line>(t.zones, buys + sells, t.lines)
@@ -121,7 +121,7 @@ pub fn clear<'a>(
         prices: price.len(),
     };
     check_tables(t, has, work.len())?;
-    let items = buys.len() / 3 + sells.len() / 3 + lines.len() / 3;
+    let items = row_count(buys) + row_count(sells) + row_count(lines);
     let work = &mut work[0..64 * items];
     Ok(clear_tables(t, bought, sold, flow, price, work))
 }

@@ -1,6 +1,6 @@
 // What is published of an hour, as text.
 use crate::clearing::clear_hour;
-use hour::{Hour, Price, refusal};
+use hour::{Hour, Price};
 use network::{Amounts, Tables, worth_of};
 use paths::Way;
 use std::alloc::{AllocError, Global};
@@ -75,8 +75,8 @@ fn cleared_text(heap: Global, hour: Hour<'_>) -> Result<String, AllocError> {
 
 // A refused hour is its refusal and nothing else; any other hour is cleared.
 pub fn published_text(heap: Global, bytes: &[u8]) -> Result<String, AllocError> {
-    if let Some(refusal) = refusal(bytes) {
-        return format!(in heap; "{refusal}\n");
+    match Hour::try_from(bytes) {
+        Ok(hour) => cleared_text(heap, hour),
+        Err(refusal) => format!(in heap; "{refusal}\n"),
     }
-    cleared_text(heap, Hour::of(bytes))
 }

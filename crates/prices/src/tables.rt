@@ -8,7 +8,7 @@ ghost use Rattle.paths.specs.Ways.{plan_of};
 ghost use Rattle.prices.specs.Found.{Fitted, Roomy, Found, result_in, prices_in};
 
 use circulation::circulate;
-use network::Tables;
+use network::{Tables, row_count};
 use paths::Way;
 
 // An hour has no more zones.
@@ -62,9 +62,9 @@ pub fn clear_slices(
     ensures flow { drop (items t.entry.lines.now) flow.new ≡ drop (items t.entry.lines.now) flow.old }
     ensures price { drop t.entry.zones price.new ≡ drop t.entry.zones price.old }
 {
-    let buys = t.buys.len() / 3;
-    let sells = t.sells.len() / 3;
-    let lines = t.lines.len() / 3;
+    let buys = row_count(t.buys);
+    let sells = row_count(t.sells);
+    let lines = row_count(t.lines);
     let zones = t.zones as usize;
     clear_fitted(
         t,

@@ -13,11 +13,11 @@ returns-in_err-sum c =
     omega (
       arith,
       worth_more bids amounts c.loop-k.k _ _ c.row_in-bid.ensures c.number_at.ensures,
-      worth_part c.args.bids.now amounts c.loop-k.k c.loop-k-test.true,
+      worth_part c.args.bids.now amounts c.loop-k.k (omega (arith, c.loop-k-test.true, c.row_count-k-end.ensures)),
       c.in_err-sum.ensures,
     )
     in
     search rules
 
 pub returns : goal.returns
-returns c = omega (arith, worth_all c.args.bids.now c.args.amounts.now c.loop-k.k (omega arith))
+returns c = omega (arith, worth_all c.args.bids.now c.args.amounts.now c.loop-k.k (omega (arith, c.row_count-k-end.ensures)))

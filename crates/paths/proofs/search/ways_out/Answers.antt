@@ -32,8 +32,8 @@ zones-preserved-then-leads_onward c =
     record {
       exits =
           ways_found _ _ _ _ c.requires.labels c.zones.v (omega arith) c.loop-l.ways c.loop-l.l _ _
-          (omega arith) (sym (length_lines_in t.lines.now)) c.loop-l-test.true
-          (omega (arith, length_bids_in t.buys.now, length_bids_in t.sells.now))
+          (omega arith) (sym (length_lines_in t.lines.now)) (omega (arith, c.loop-l-test.true, c.row_count-l-end.ensures))
+          (omega (arith, length_bids_in t.buys.now, length_bids_in t.sells.now, c.row_count.ensures, c.row_count-2.ensures))
           before.exits (λ near. c.if-ways-v-eq0.false (sym (far_kept _ _ c.zones.v c.zones.invariant.others) ∙ near))
           before.none
           (subst₂ (λ ws fs. onward (market_given t) (outcome_given c.args.given.amounts) ws fs c.zones.v c.loop-l.l ≡ true)
@@ -60,7 +60,7 @@ zones-preserved c =
     record {
       exits =
           exits_none _ _ _ _ c.requires.labels c.zones.v (omega arith) _ c.loop-l.l
-          (omega (arith, length_lines_in t.lines.now)) before.exits
+          (omega (arith, length_lines_in t.lines.now, c.row_count-l-end.ensures)) before.exits
           (λ near. c.if-ways-v-eq0.false (sym (far_kept _ _ c.zones.v c.zones.invariant.others) ∙ near)) before.none;
       others = before.others;
     }

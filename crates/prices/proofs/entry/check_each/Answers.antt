@@ -1,6 +1,5 @@
 use Rattle.std.proofs.Common.{◌≡◌, ℕ, length, Some, sym, arith, rules}
 use Rattle.hour.proofs.First.{first_some}
-use Rattle.hour.specs.First.{first}
 use Rattle.network.specs.Tables.{cell, items, rows_in, nth_row}
 use Rattle.std.proofs.lemmas.List.FromFn.{length-map-range_with_len}
 use Rattle.prices.proofs.entry.check_each.Goals as goal
