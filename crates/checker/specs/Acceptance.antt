@@ -12,7 +12,7 @@
 --                          prices 3
 --   refusal_to_check       what is refused: the head and the length of the hour, lent slices, the hour's items
 --   objection_to           what there is against a result, given what is refused and what is broken
---   unless e x             x where there is no error
+--   unless e x             x where there is no error, else the error
 --   verdict_of bs o ps     the verdict on an outcome and prices of the hour that the bytes say
 --   Stands bs o ps         nothing is refused, the outcome can be carried out, and the prices settle it
 --

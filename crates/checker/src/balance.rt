@@ -81,7 +81,7 @@ impl<'a> Claim<'a> {
     {
         let mut sum: u128 = 0;
         for k in 0..self.side_count(side) {
-            sum += self.counted(side, zone, k) as u128;
+            sum += u128::from(self.counted(side, zone, k));
         }
         sum
     }

@@ -18,6 +18,7 @@ use hour::{Hour, Sort};
 use ledger::{price_above, price_below, worth_in};
 use network::Item;
 
+// As `network::number_at`, for signed numbers: one for both would take the type, and do no more than this line of the library's.
 fn money_at(moneys: &[i128], k: usize) -> i128
     ensures { result ≡ money_at moneys.now k }
 {
@@ -76,7 +77,7 @@ impl Standing<'_> {
         check_figure(
             1,
             None,
-            worth_in(self.claim.hour, self.claim.amounts) as i128,
+            i128::from(worth_in(self.claim.hour, self.claim.amounts)),
             written,
         )
     }

@@ -51,7 +51,7 @@ impl Broken {
     }
 }
 
-// Why there is no answer about a result.
+// What there is against a result.
 #[derive(Clone, Copy, Debug, PartialEq, Eq)]
 pub enum Objection {
     // The hour or a lent slice is refused.

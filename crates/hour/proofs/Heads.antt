@@ -125,8 +125,3 @@ items_stand bs h ok = ap (items_read bs) (head_read_ok bs h ok).1 ∙ items_said
 -- a refused head refuses the hour, and a sound one leaves it to the items
 pub refusal_by_head : (bs : List ℕ) (e : Refusal) → head_read bs ≡ Err e → Some e ≡ refusal_of bs
 refusal_by_head bs e err = ap (λ (o : Option Refusal). o else item_fault (market_of bs)) (sym (head_read_err bs e err))
-
-pub refusal_by_items :
-    (bs : List ℕ) (h : Head) (r : Option Refusal) → head_read bs ≡ Ok h → r ≡ item_fault (market_of bs) →
-    r ≡ refusal_of bs
-refusal_by_items bs h r ok is = is ∙ sym (else_none _ _ (head_read_ok bs h ok).0)

@@ -56,7 +56,7 @@ pub fn read_head(bytes: &[u8]) -> Result<Head, Refusal>
 }
 
 // The first rule that one of `count` entries breaks, which stand behind so many bids. Entries in a list have the same loop in
-// writing.rt: a closure that gives the k-th of either would need a clause as long as the loop.
+// writing.rt, and rows of tables in a crate above: a closure that gives the k-th of either would need a clause as long as the loop.
 fn check_each<E: Entry>(bytes: &[u8], zones: u64, bids: usize, count: usize) -> Result<(), Refusal>
     requires { E.place bids count ≤ length bytes.now }
     ensures { result_err result ≡ first count (λ k. E.fault zones (E.place bids k) (E.said bytes.now (E.place bids k))) }
@@ -89,7 +89,7 @@ pub fn check_bytes(bytes: &[u8]) -> Result<(), Refusal>
     check_items(bytes, head)
 }
 
-// The same, or nothing: then they are an hour.
+// The same, or nothing: then they are an hour. For callers that only show the refusal.
 pub fn refusal(bytes: &[u8]) -> Option<Refusal>
     ensures { result ≡ refusal_of bytes.now }
 {

@@ -10,21 +10,11 @@ use crate::sums::largest_hour;
 use hour::{Fault, status, tell, write_answer};
 use ledger::published;
 use lent::Slice;
-use samples::{ODD, REFUSED, WORKED, refused, sample};
+use samples::{ODD, WORKED, sample, tell_refused};
 use std::process::ExitCode;
 
 // Buys and sells of the largest hours: all are served at the lowest price, or one buy too many holds the highest.
 const LARGEST: [(usize, usize); 2] = [(1_000, 1_000), (1_000, 999)];
-
-fn refused_hours(rt: &HostRuntime) -> Result<(), Fault> {
-    let heap = rt.alloc();
-    for n in 0..REFUSED {
-        let bytes = refused(rt, n)?;
-        let text = published(heap, bytes.as_slice())?;
-        write_answer(rt, format!(in heap; "{n:03} {text}")?.as_str())?;
-    }
-    Ok(())
-}
 
 // What sample hours of one kind come to, and whether their sums close.
 fn sample_hours(rt: &HostRuntime, kind: &str, names: &[&str]) -> Result<(), Fault> {
@@ -74,7 +64,7 @@ fn short_slices(rt: &HostRuntime) -> Result<(), Fault> {
 }
 
 fn run(rt: &HostRuntime) -> Result<(), Fault> {
-    refused_hours(rt)?;
+    tell_refused(rt, |heap, bytes| published(heap, bytes))?;
     sample_hours(rt, "worked", &WORKED)?;
     sample_hours(rt, "odd", &ODD)?;
     largest_hours(rt)?;

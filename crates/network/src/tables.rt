@@ -1,5 +1,6 @@
 // A market and an outcome in tables of numbers: what it is worth, and each zone's balance.
-// A table has three numbers for each item: zone, price, amount of a bid; from, to, capacity of a line.
+// A table has three numbers for each item: zone, price, amount of a bid; from, to, capacity of a line. It is a list of numbers, and so
+// are amounts and flows, since that is what callers lend.
 ghost use Rattle.std.specs.Prelude.{◌≡◌, ℕ, ◌+◌, ◌-◌, ◌*◌, ◌^◌, ◌<◌, ◌≤◌, MatchOption};
 ghost use Rattle.std.specs.Option.{SomeIff};
 ghost use Rattle.hour.specs.Market.{at, in_zone, into, out_of, worth};
@@ -181,7 +182,7 @@ fn zone_total(table: &[u64], column: usize, zone: u64, amounts: &[u64]) -> u128
     let mut sum: u128 = 0;
     for k in 0..row_count(table) {
         if cell(table, k, column) == zone {
-            sum += number_at(amounts, k) as u128;
+            sum += u128::from(number_at(amounts, k));
         }
     }
     sum

@@ -65,6 +65,7 @@ fn round(given: Given, from_last: bool, ways: &mut [Way]) -> u64
     ensures raised { Raised given.entry.tables given.entry.amounts ways.old result ways.new }
     ensures relaxed { result ≡ 0 → (l : ℕ) → l < items given.entry.tables.lines.now → Relaxed (market_given given.entry.tables) (outcome_given given.entry.amounts) (worths ways.new) (fars ways.new) l }
 {
+    // A range and the same turned round are two types, so one loop counts for both.
     let lines = row_count(given.tables.lines);
     let mut rose = 0;
     for k in 0..lines {

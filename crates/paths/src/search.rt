@@ -34,7 +34,8 @@ fn leads_onward(given: Given, ways: &[Way], v: usize, l: usize) -> bool
     to == v && flow > 0 && ways[from].is_nearer(&ways[v])
 }
 
-// How each zone's way leaves it: by its own taker, which it has already, or by the first line that leads on.
+// How each zone's way leaves it: by its own taker, which it has already, or by the first line that leads on. One way is changed while
+// all are read, so zones are counted; the label leaves the loop over lines where one leads on.
 fn ways_out(given: Given, ways: &mut [Way])
     requires zones { length ways.old ≡ given.tables.zones }
     requires labels { BestLabels (market_given given.tables) (outcome_given given.amounts) (worths ways.old) (fars ways.old) }

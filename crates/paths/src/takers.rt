@@ -49,7 +49,7 @@ fn look(given: Given, number: u64, bid: Bid, takes: bool, gives: bool, ways: &mu
     note(&mut way.ask, &mut way.giver, gives, cheaper, bid, number);
 }
 
-// Buys take what they have room for, and give what they have.
+// Buys take what they have room for, and give what they have. The number of a bid is what is noted of it, so bids are counted.
 pub fn look_at_buys(given: Given, ways: &mut [Way])
     requires { Looked given.tables given.amounts 0 ways.old }
     ensures { Looked given.entry.tables given.entry.amounts (items given.entry.tables.buys.now) ways.new }

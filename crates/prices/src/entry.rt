@@ -22,7 +22,8 @@ fn check_table(table: &[u64]) -> Result<(), Refusal>
     Ok(())
 }
 
-// The first rule that one of a table's rows breaks, behind so many bids in the written hour.
+// The first rule that one of a table's rows breaks, behind so many bids in the written hour: the loop that hour has for entries in
+// bytes and in lists.
 fn check_each<E: Entry + Row>(zones: u64, bids: usize, table: &[u64]) -> Result<(), Refusal>
     requires { E.place bids (items table.now) < 2 ^ 64 }
     ensures { result_err result ≡ first (length (rows_in E.made table.now)) (λ k. E.fault zones (E.place bids k) (nth_row E.made table.now k)) }

@@ -1,4 +1,4 @@
-// What is published of an hour, as text.
+// What is published of an hour, as text: the rows without money, which have no contract. Those with money are the ledger's, and proved.
 use crate::clearing::clear_hour;
 use hour::{Hour, Price};
 use network::{Amounts, Tables, worth_of};

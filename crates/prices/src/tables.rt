@@ -14,6 +14,7 @@ use paths::Way;
 // An hour has no more zones.
 const ZONES_ROOM: usize = 32;
 
+// By number: over prices and ways side by side it is not proved what the prices become.
 fn lay_prices(ways: &[Way], price: &mut [u64])
     requires { length price.old ≡ length ways.now }
     ensures { price.new ≡ prices_of (plan_of ways.now) }
@@ -75,7 +76,7 @@ pub fn clear_slices(
     )
 }
 
-// The same, with a work slice of any length, which is left at zeros.
+// The same, and zeros in a lent work slice of any length, which is not needed for more.
 pub fn clear_tables(
     t: Tables,
     bought: &mut [u64],

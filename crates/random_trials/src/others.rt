@@ -69,6 +69,7 @@ fn nudge(draws: &mut Draws, numbers: &mut [u64]) {
 fn nudged(draws: &mut Draws, pair: &Pair) -> Result<Pair, AllocError> {
     let mut outcome = pair.outcome.clone()?;
     let mut prices = pair.prices.clone()?;
+    // A drawn number picks one, and says no more.
     match draws.below(4) {
         0 => nudge(draws, outcome.bought.as_mut_slice()),
         1 => nudge(draws, outcome.sold.as_mut_slice()),

@@ -45,6 +45,7 @@ fn redraw_items(draws: &mut Draws, bytes: &mut [u8]) {
 // An hour with one byte changed, cut, lengthened or drawn anew, or any bytes.
 fn drawn_string(heap: Global, draws: &mut Draws, small: &Small) -> Result<Vec<u8>, AllocError> {
     let mut bytes = small.bytes(heap)?;
+    // A drawn number picks one, and says no more.
     match draws.below(5) {
         0 => change_one(draws, bytes.as_mut_slice()),
         1 => bytes.truncate(draws.below(bytes.len() as u64) as usize),

@@ -11,7 +11,7 @@ use lent::{Lent, Sizes, Slices};
 use std::alloc::{AllocError, Global};
 
 // What of an hour is as the slow search has it.
-// Nothing of an hour that is refused is as it should be.
+// By default nothing is: so of an hour that is refused.
 #[derive(Clone, Copy, Default)]
 pub struct Alike {
     // Something can be bought and sold for more than nothing: of other hours the trial shows less.

@@ -1,10 +1,11 @@
 // The sample hours of the trials: their names, and their bytes.
 #![tactic(auto)]
 
-use hour::{Fault, read_file};
+use hour::{Fault, read_file, write_answer};
+use std::alloc::{AllocError, Global};
 
 // Those that break a rule have numbers.
-pub const REFUSED: u64 = 54;
+const REFUSED: u64 = 54;
 
 pub const WORKED: [&str; 9] = ["A", "A1", "B", "C", "D", "E", "F", "G", "takeback"];
 
@@ -20,13 +21,24 @@ pub const ODD: [&str; 9] = [
     "alternating",
 ];
 
-// The bytes of a sample of one kind, which lies in a folder of that name.
+// The bytes of a sample of one kind, which lies in a folder of that name; no clause can say what a file gives.
 pub fn sample(rt: &HostRuntime, kind: &str, name: &str) -> Result<Vec<u8>, Fault> {
     read_file(rt, format!(in rt.alloc(); "{kind}/{name}.bin")?)
 }
 
-// The same of those that have numbers.
-pub fn refused(rt: &HostRuntime, number: u64) -> Result<Vec<u8>, Fault> {
-    let name = format!(in rt.alloc(); "{number:03}")?;
-    sample(rt, "refused", name.as_str())
+// What is said of each of those that break a rule, with its number.
+pub fn tell_refused<F: Fn(Global, &[u8]) -> Result<String, AllocError>>(
+    rt: &HostRuntime,
+    said: F,
+) -> Result<(), Fault>
+    requires { F.IsAlwaysCallable said }
+{
+    let heap = rt.alloc();
+    for n in 0..REFUSED {
+        let name = format!(in heap; "{n:03}")?;
+        let bytes = sample(rt, "refused", name.as_str())?;
+        let text = said(heap, bytes.as_slice())?;
+        write_answer(rt, format!(in heap; "{name} {text}")?.as_str())?;
+    }
+    Ok(())
 }

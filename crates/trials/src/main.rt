@@ -9,7 +9,7 @@ use crate::copies::written_back;
 use crate::limits::{Counts, hour_of};
 use hour::{Fault, Hour, listing, status, tell, write_answer};
 use prices::published_text;
-use samples::{ODD, REFUSED, WORKED, refused, sample};
+use samples::{ODD, WORKED, sample, tell_refused};
 use std::alloc::{AllocError, Global};
 use std::process::ExitCode;
 
@@ -51,16 +51,6 @@ const LIMITS: [Counts; 6] = [
         lines: 128,
     },
 ];
-
-fn refused_hours(rt: &HostRuntime) -> Result<(), Fault> {
-    let heap = rt.alloc();
-    for n in 0..REFUSED {
-        let bytes = refused(rt, n)?;
-        let text = listing(heap, bytes.as_slice())?;
-        write_answer(rt, format!(in heap; "{n:03} {text}")?.as_str())?;
-    }
-    Ok(())
-}
 
 fn copy_word(written_back: bool) -> &'static str {
     if written_back {
@@ -120,7 +110,7 @@ fn hours_at_limits(rt: &HostRuntime) -> Result<(), Fault> {
 }
 
 fn run(rt: &HostRuntime) -> Result<(), Fault> {
-    refused_hours(rt)?;
+    tell_refused(rt, |heap, bytes| listing(heap, bytes))?;
     worked_hours(rt)?;
     odd_hours(rt)?;
     hours_at_limits(rt)
