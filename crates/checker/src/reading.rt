@@ -27,7 +27,7 @@ fn digits<'a>(limit: u128, first: u128, bytes: &'a [u8]) -> Option<(u128, &'a [u
         if !b.is_ascii_digit() {
             return Some((n, rest));
         }
-        let d = (*b - b'0') as u128;
+        let d = u128::from(*b - b'0');
         if n > (limit - d) / 10 {
             return None;
         }
@@ -50,7 +50,7 @@ pub fn number<'a>(limit: u128, bytes: &'a [u8]) -> Option<(u128, &'a [u8])>
     if !b.is_ascii_digit() {
         return None;
     }
-    digits(limit, (*b - b'0') as u128, rest)
+    digits(limit, u128::from(*b - b'0'), rest)
 }
 
 // The text behind the number k.
@@ -103,7 +103,7 @@ fn digit<'a>(bytes: &'a [u8]) -> Option<(u64, &'a [u8])>
 {
     let (b, rest) = bytes.split_first()?;
     if b.is_ascii_digit() {
-        Some(((*b - b'0') as u64, rest))
+        Some((u64::from(*b - b'0'), rest))
     } else {
         None
     }
@@ -118,7 +118,7 @@ fn hundredths<'a>(bytes: &'a [u8]) -> Option<(u128, &'a [u8])>
     let rest = after(".", rest)?;
     let (tens, rest) = digit(rest)?;
     let (ones, rest) = digit(rest)?;
-    Some((units * 100 + tens as u128 * 10 + ones as u128, rest))
+    Some((units * 100 + u128::from(tens) * 10 + u128::from(ones), rest))
 }
 
 // A price below nothing: not 0, and no further below than a price goes.
