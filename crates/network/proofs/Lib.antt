@@ -7,6 +7,7 @@ pub mod Ways
 pub mod Rest
 pub mod Hours
 pub mod Rows
+pub mod Triples
 pub mod Items
 pub mod Cap
 pub mod Agree

@@ -2,13 +2,15 @@
 --
 --   cell t k c       number c, from 0, of item k of the table t
 --   items t          how many items the table t has; one or two numbers at its end that make no item do not count
+--   triples t        the rows of the table t, three numbers each
+--   of_numbers made  what is made of a row's three numbers
 --   nth_row made t k row k of the table t, made of its three numbers; past the end all three are 0
 --   bids_in t        the bids of a table: zone, price, amount
 --   lines_in t       the lines of a table: from, to, capacity
 --   zone_total       the amounts, together, of those items that have the zone z in column c
 --   market_in        the market of so many zones with these tables of buys, sells and lines
 --   outcome_in       the outcome with these lists of amounts and flows
-use Rattle.std.specs.Prelude.{ℕ, ◌+◌, ◌*◌, ◌/◌, List, length, slice_index_or}
+use Rattle.std.specs.Prelude.{ℕ, ◌+◌, ◌*◌, ◌/◌, List, [], ◌∷◌, length, slice_index, slice_index_or}
 use Rattle.hour.specs.Listed.{listed}
 use Rattle.hour.specs.Total.{tagged}
 use Rattle.hour.specs.declared.items.Bid.{Bid}
@@ -23,6 +25,12 @@ items t = length t / 3
 
 abbrev pub rows_in : {A : Type 0} → (ℕ → ℕ → ℕ → A) → List ℕ → List A
 rows_in made t = listed (items t) (λ k. made (cell t k 0) (cell t k 1) (cell t k 2))
+
+abbrev pub triples : List ℕ → List (List ℕ)
+triples t = rows_in (λ first second third. first ∷ second ∷ third ∷ []) t
+
+abbrev pub of_numbers : {A : Type 0} → (ℕ → ℕ → ℕ → A) → List ℕ → A
+of_numbers made row = made (slice_index row 0) (slice_index row 1) (slice_index row 2)
 
 abbrev pub nth_row : {A : Type 0} → (ℕ → ℕ → ℕ → A) → List ℕ → ℕ → A
 nth_row made t k = slice_index_or (rows_in made t) k (made 0 0 0)

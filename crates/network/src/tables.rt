@@ -1,17 +1,19 @@
 // A market and an outcome in tables of numbers: what it is worth, and each zone's balance.
-// A table has three numbers for each item: zone, price, amount of a bid; from, to, capacity of a line. It is a list of numbers, and so
-// are amounts and flows, since that is what callers lend.
-ghost use Rattle.std.specs.Prelude.{◌≡◌, ℕ, ◌+◌, ◌-◌, ◌*◌, ◌^◌, ◌<◌, ◌≤◌, MatchOption};
+// A table has a row of three numbers for each item: zone, price, amount of a bid; from, to, capacity of a line. It is lent as a
+// flat list of numbers, and so are amounts and flows, of which there may be fewer than rows.
+ghost use Rattle.std.specs.Prelude.{◌≡◌, ℕ, length, ◌+◌, ◌-◌, ◌*◌, ◌^◌, ◌<◌, ◌≤◌, MatchOption};
 ghost use Rattle.std.specs.Option.{SomeIff};
 ghost use Rattle.hour.specs.Market.{at, in_zone, into, out_of, worth};
 ghost use Rattle.network.specs.Given.{outcome_given};
 ghost use Rattle.network.specs.Network.{carried, nth};
-ghost use Rattle.network.specs.Tables.{cell, items, nth_row, bids_in, lines_in, zone_total};
+ghost use Rattle.network.specs.Tables.{items, triples, of_numbers, nth_row, bids_in, lines_in, zone_total};
 
 use crate::arcs::Item;
 use hour::{Bid, Line};
 
 const ZONE: usize = 0;
+
+const PRICE: usize = 1;
 
 const FROM: usize = 0;
 
@@ -52,18 +54,20 @@ impl Amounts<'_> {
     }
 }
 
+// A table's rows; one or two numbers at its end that make no row do not count.
+#[tactic(auto, using(crate::proofs::Triples::cut_in_triples))]
+fn rows(table: &[u64]) -> &[[u64; 3]]
+    ensures each { result.now ≡ triples table.now }
+    ensures count { length result.now ≡ items table.now }
+{
+    table.as_chunks::<3>().0
+}
+
 // How many rows a table has.
 pub fn row_count(table: &[u64]) -> usize
     ensures { result ≡ items table.now }
 {
-    table.len() / 3
-}
-
-fn cell(table: &[u64], item: usize, column: usize) -> u64
-    requires { (item < items table.now) × (column < 3) }
-    ensures { result ≡ cell table.now item column }
-{
-    table[3 * item + column]
+    rows(table).len()
 }
 
 // What a row of a table says, made of its three numbers.
@@ -94,23 +98,28 @@ impl Row for Line {
     }
 }
 
+fn row_of<R: Row>(row: [u64; 3]) -> R
+    ensures { result ≡ of_numbers R.made row }
+{
+    let [first, second, third] = row;
+    R::of(first, second, third)
+}
+
 // The k-th row of a table.
+#[tactic(auto, using(crate::proofs::Triples::row_made))]
 pub fn row_in<R: Row>(table: &[u64], k: usize) -> R
     requires { k < items table.now }
     ensures { result ≡ nth_row R.made table.now k }
 {
-    R::of(cell(table, k, 0), cell(table, k, 1), cell(table, k, 2))
+    row_of(rows(table)[k])
 }
 
 // Past the end of the table all three numbers are 0.
+#[tactic(auto, using(crate::proofs::Triples::row_made))]
 pub fn row_at<R: Row>(table: &[u64], k: usize) -> R
     ensures { result ≡ nth_row R.made table.now k }
 {
-    if k < row_count(table) {
-        row_in(table, k)
-    } else {
-        R::of(0, 0, 0)
-    }
+    row_of(rows(table).get(k).copied().unwrap_or([0; 3]))
 }
 
 // Item k of all: buys first, then sells, then lines.
@@ -134,8 +143,8 @@ pub fn item_count(t: Tables) -> usize
     row_count(t.buys) + row_count(t.sells) + row_count(t.lines)
 }
 
-// What amounts are worth at the prices of their bids; none where that is too large for 128 bits. By number, here and below: a row is
-// three numbers of one list, and its amount a number of another, which may be shorter.
+// What amounts are worth at the prices of their bids; none where that is too large for 128 bits.
+#[tactic(auto, using(crate::proofs::Rows::worth_turn))]
 pub fn bids_worth(bids: &[u64], amounts: &[u64]) -> Option<u128>
     ensures { SomeIff
         result
@@ -143,9 +152,8 @@ pub fn bids_worth(bids: &[u64], amounts: &[u64]) -> Option<u128>
         (worth (bids_in bids.now) amounts.now) }
 {
     let mut sum: u128 = 0;
-    for k in 0..row_count(bids) {
-        let bid: Bid = row_in(bids, k);
-        sum = sum.checked_add(bid.price as u128 * number_at(amounts, k) as u128)?;
+    for (k, row) in rows(bids).iter().enumerate() {
+        sum = sum.checked_add(row[PRICE] as u128 * number_at(amounts, k) as u128)?;
     }
     Some(sum)
 }
@@ -174,14 +182,15 @@ pub fn worth_of(t: Tables, o: Amounts) -> Option<Worth>
 }
 
 // The amounts, together, of those items that have the zone in a column.
+#[tactic(auto, using(crate::proofs::Triples::cell_in))]
 fn zone_total(table: &[u64], column: usize, zone: u64, amounts: &[u64]) -> u128
     requires { column < 3 }
     ensures value { result ≡ zone_total table.now column zone amounts.now }
     ensures small { result ≤ (2 ^ 64 - 1) * items table.now }
 {
     let mut sum: u128 = 0;
-    for k in 0..row_count(table) {
-        if cell(table, k, column) == zone {
+    for (k, row) in rows(table).iter().enumerate() {
+        if row[column] == zone {
             sum += u128::from(number_at(amounts, k));
         }
     }
@@ -195,6 +204,7 @@ pub struct Balance {
     pub goes: u128,
 }
 
+#[tactic(auto, using(crate::proofs::Rows::in_zone_in, crate::proofs::Rows::into_in, crate::proofs::Rows::out_of_in))]
 pub fn balance_at(t: Tables, o: Amounts, zone: u64) -> Balance
     ensures comes { result.comes
         ≡ in_zone zone (bids_in t.entry.sells.now) o.entry.sold.now
