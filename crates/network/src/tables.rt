@@ -153,7 +153,7 @@ pub fn bids_worth(bids: &[u64], amounts: &[u64]) -> Option<u128>
 {
     let mut sum: u128 = 0;
     for (k, row) in rows(bids).iter().enumerate() {
-        sum = sum.checked_add(row[PRICE] as u128 * number_at(amounts, k) as u128)?;
+        sum = sum.checked_add(u128::from(row[PRICE]) * u128::from(number_at(amounts, k)))?;
     }
     Some(sum)
 }
