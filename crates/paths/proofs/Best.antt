@@ -1,9 +1,9 @@
--- Laws of `best`: its steps as a loop has them, and what it gives. Assumes nothing.
+-- Laws of `best`: what it gives. Assumes nothing.
 --
 --   Strict beats           nobody beats himself; who does not beat k does not beat one who beats k
 --   Chosen n ok beats k    k is below n and ok, and nobody below n who is ok beats k
-use Rattle.std.proofs.Common.{◌≡◌, ℕ, zero, suc, ◌+◌, ◌<◌, Bool, true, false, cond, ltb, Some, None, Option, sym, refl, ap, ◌∙◌, subst, inl, inr, add-one, arith}
-use Rattle.std.proofs.lemmas.Bool.{cases_eq, both_ways, cond-true, cond-false, ltb-true, ltb-false, le-ltb}
+use Rattle.std.proofs.Common.{◌≡◌, ℕ, zero, suc, ◌<◌, Bool, true, false, cond, ltb, Some, None, Option, sym, refl, ap, ◌∙◌, subst, inl, inr, arith}
+use Rattle.std.proofs.lemmas.Bool.{cases_eq, both_ways, ltb-true, ltb-false, le-ltb}
 use Rattle.hour.specs.First.{when, ◌else◌, first}
 use Rattle.hour.proofs.First.{when_none, first_none}
 use Rattle.paths.specs.Best.{better, best}
@@ -30,24 +30,6 @@ strict_lower key =
           le-ltb (key j) (key n)
           (omega (arith, ltb-false (key j) (key k) not_j, ltb-true (key n) (key k) yes_n));
     }
-
-module _ (ok : ℕ → Bool) (beats : ℕ → ℕ → Bool) where
-  pub best_skip : (n : ℕ) → ok n ≡ false → best (n + 1) ok beats ≡ best n ok beats
-  best_skip n off = rw add-one (cond-false (ok n) _ _ off)
-
-  best_more : (n : ℕ) → ok n ≡ true → best (n + 1) ok beats ≡ better beats n (best n ok beats)
-  best_more n on = rw add-one (cond-true (ok n) _ _ on)
-
-  pub best_first : (n : ℕ) → ok n ≡ true → best n ok beats ≡ None → best (n + 1) ok beats ≡ Some n
-  best_first n on none = best_more n on ∙ ap (better beats n) none
-
-  pub best_takes :
-      (n k : ℕ) → ok n ≡ true → best n ok beats ≡ Some k → beats n k ≡ true → best (n + 1) ok beats ≡ Some n
-  best_takes n k on some beaten = best_more n on ∙ ap (better beats n) some ∙ cond-true (beats n k) _ _ beaten
-
-  pub best_keeps :
-      (n k : ℕ) → ok n ≡ true → best n ok beats ≡ Some k → beats n k ≡ false → best (n + 1) ok beats ≡ Some k
-  best_keeps n k on some unbeaten = best_more n on ∙ ap (better beats n) some ∙ cond-false (beats n k) _ _ unbeaten
 
 pub record Chosen (n : ℕ) (ok : ℕ → Bool) (beats : ℕ → ℕ → Bool) (k : ℕ) : Type 0 where
   pub below : k < n

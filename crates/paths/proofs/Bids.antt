@@ -135,24 +135,13 @@ module _ (m : Market) (o : Outcome) (z : ℕ) where
       let chosen = best_some (gives m o z) (cheaper m) strict (bids m) k found in
       omega (arith, ltb-false _ _ (chosen.unbeaten j below on), ap (worth_at m) found)
 
-  -- where no bid's price is above c, neither is what takers and givers are worth, as tables have it
+  -- where no bid's price is above c, neither is what a taker is worth, as tables have it
   pub own_limit : (c : ℕ) → ((k : ℕ) → k < bids m → price_of m (item_no m k) ≤ c) → own m o z ≤ suc c
   own_limit c limit =
       elim (cases_lt 0 (own m o z)) [
         | inl some ↦
             let (k, taken) = worth_some m (taker m o z) some in
             let found = taker_found k taken in
-            omega (arith, found.worth, limit k found.below)
-        | inr none ↦ omega arith
-      ]
-
-  pub ask_limit :
-      (c : ℕ) → ((k : ℕ) → k < bids m → price_of m (item_no m k) ≤ c) → worth_at m (giver m o z) ≤ suc c
-  ask_limit c limit =
-      elim (cases_lt 0 (worth_at m (giver m o z))) [
-        | inl some ↦
-            let (k, given) = worth_some m (giver m o z) some in
-            let found = giver_found k given in
             omega (arith, found.worth, limit k found.below)
         | inr none ↦ omega arith
       ]

@@ -37,10 +37,6 @@ module _ (m : Market) (o : Outcome) (worth far : List ℕ) where
     pub here : at out v ≡ 0
     pub later : (u : ℕ) → v < u → u < m.zones → at out u ≡ numbered (taker m o u)
 
-  pub exits_start :
-      (out : List ℕ) → ((u : ℕ) → u < m.zones → at out u ≡ numbered (taker m o u)) → ExitsTo 0 out
-  exits_start out takers = record { done = λ u below. absurd (omega arith); later = λ u from below. takers u below }
-
   -- a zone with no way has no taker of its own
   no_taker : (b : Option ℕ) → worth_at m b ≡ 0 → numbered b ≡ 0
   no_taker None none = refl

@@ -87,9 +87,6 @@ keeps_over ws v w =
 pub out_set : (ws : List Way) (v x : ℕ) → outs (set ws v (record (way_at ws v) { out = x })) ≡ set (outs ws) v x
 out_set ws v x = map-set (λ (w : Way). w.out) ws v _
 
-pub keeps_all : (ws : List Way) → KeepsAllButOut ws ws
-keeps_all ws = record { worth = refl; far = refl; ask = refl; giver = refl }
-
 -- another way out
 pub keeps_out :
     (ws us : List Way) (v x : ℕ) → KeepsAllButOut ws us → KeepsAllButOut ws (set us v (record (way_at us v) { out = x }))
