@@ -1,68 +1,72 @@
 -- A bid that is looked at: where it lies, and whether it takes or gives. Assumes nothing.
-use Rattle.std.proofs.Common.{◌≡◌, ℕ, ◌+◌, ◌-◌, ◌<◌, Bool, cond, ◌&&◌, eqb, ltb, List, length, set, sym, refl, ap, ◌∙◌, arith}
+use Rattle.std.proofs.Common.{◌≡◌, ℕ, ◌+◌, ◌^◌, ◌<◌, Bool, cond, ◌&&◌, ltb, List, length, set, sym, refl, ap, ◌∙◌, arith}
 use Rattle.std.proofs.Math.Seq.{map-set_same}
 use Rattle.std.proofs.lemmas.List.{length-set}
 use Rattle.std.proofs.lemmas.Bool.{eq-eqb}
-use Rattle.std.proofs.lemmas.Bool.Decides.{nat_tests}
 use Rattle.hour.specs.Market.{at, bid}
 use Rattle.hour.specs.declared.items.Bid.{Bid}
 use Rattle.network.proofs.Items.{nth_buy, nth_sell}
 use Rattle.network.proofs.Rows.{length_bids_in}
 use Rattle.network.specs.Tables.{items}
+use Rattle.network.specs.Ways.{room}
+use Rattle.network.specs.declared.arcs.Item.{Item}
 use Rattle.network.specs.declared.arcs.Item.TheVariants.{Buy, Sell}
 use Rattle.network.specs.declared.tables.Amounts.{Amounts}
 use Rattle.network.specs.declared.tables.Tables.{Tables}
-use Rattle.paths.specs.Bids.{item_no, zone_of, price_of}
+use Rattle.paths.specs.Bids.{item_no, taking, giving, zone_of, price_of}
 use Rattle.network.specs.Given.{market_given, outcome_given}
 use Rattle.paths.specs.Search.{Sound, Looks, Looked}
 use Rattle.paths.specs.Ways.{no_way, way_at}
 use Rattle.paths.specs.declared.ways.Way.{Way}
 use Rattle.paths.proofs.Noted.{lower, takers_more, givers_more}
+use Rattle.paths.proofs.Steps.{room_left}
 use Rattle.paths.proofs.Zones.{worth_is, out_is, ask_is, giver_is, replaced}
 
--- a bid in its own zone takes, or gives, where there is room that way
-in_own_zone : (z x y : ℕ) → ltb x y ≡ (eqb z z && ltb 0 (y - x))
-in_own_zone z x y = rw (eq-eqb z z refl) (grind (arith, nat_tests))
+-- bid n of all is the item i, with room each way as two tests say
+module _
+    (t : Tables) (o : Amounts) (n : ℕ) (i : Item) (b : Bid) (tk gv : Bool)
+    (number : item_no (market_given t) n ≡ i) (takes : tk ≡ ltb 0 (room (market_given t) (outcome_given o) (taking i)))
+    (gives : gv ≡ ltb 0 (room (market_given t) (outcome_given o) (giving i)))
+  where
+    item_looks :
+        zone_of (market_given t) i ≡ b.zone → b.price ≡ price_of (market_given t) i → b.zone < t.zones →
+        b.price < 2 ^ 32 → n < 2 ^ 34 → Looks t o n b tk gv
+    item_looks zone price within small few =
+        record {
+          zone = ap (zone_of (market_given t)) number ∙ zone;
+          price = price ∙ ap (price_of (market_given t)) (sym number);
+          within = within;
+          small = small;
+          few = few;
+          takes = rw (number, zone, eq-eqb b.zone b.zone refl) takes;
+          gives = rw (number, zone, eq-eqb b.zone b.zone refl) gives;
+        }
 
-has_some : (z x : ℕ) → ltb 0 x ≡ (eqb z z && ltb 0 x)
-has_some z x = rw (eq-eqb z z refl)
-
-module _ (t : Tables) (o : Amounts) (sound : Sound t o) (k has : ℕ) (b : Bid) where
+-- one of n bids in a table, as it was read
+module _ (t : Tables) (o : Amounts) (sound : Sound t o) {n k : ℕ} {b : Bid} (within : k < n) where
   pub buy_looks :
-      k < items t.buys.now → b ≡ bid (market_given t).buys k → has ≡ at o.bought.now k →
-      Looks t o k b (ltb has b.amount) (ltb 0 has)
-  buy_looks within is amount =
-      let below : k < length (market_given t).buys = rw (length_bids_in t.buys.now) within in
-      let no_is : item_no (market_given t) k ≡ Buy k = nth_buy _ _ k below in
-      rw (is, amount)
-      (record {
-        zone = ap (zone_of (market_given t)) no_is;
-        price = ap (price_of (market_given t)) (sym no_is);
-        within = sound.tables.proper.buys k below;
-        small = sound.tables.buy_prices k within;
-        few = omega (arith, sound.tables.buys);
-        takes = rw no_is (in_own_zone _ _ _);
-        gives = rw no_is (has_some _ _);
-      })
+      n ≡ items t.buys.now → b ≡ bid (market_given t).buys k →
+      Looks t o k b (ltb (at o.bought.now k) b.amount) (ltb 0 (at o.bought.now k))
+  buy_looks count is =
+      let inside : k < items t.buys.now = omega arith in
+      let below : k < length (market_given t).buys = omega (arith, length_bids_in t.buys.now) in
+      rw is
+      (item_looks t o k (Buy k) _ _ _ (nth_buy _ _ k below) (room_left _ _) refl refl refl
+      (sound.tables.proper.buys k below) (sound.tables.buy_prices k inside) (omega (arith, sound.tables.buys)))
 
   pub sell_looks :
-      k < items t.sells.now → b ≡ bid (market_given t).sells k → has ≡ at o.sold.now k →
-      Looks t o (items t.buys.now + k) b (ltb 0 has) (ltb has b.amount)
-  sell_looks within is amount =
-      let below : k < length (market_given t).sells = rw (length_bids_in t.sells.now) within in
-      let no_is : item_no (market_given t) (items t.buys.now + k) ≡ Sell k =
-      nth_sell _ _ (items t.buys.now + k) k (omega (arith, length_bids_in t.buys.now)) below
+      (buys : ℕ) → buys ≡ items t.buys.now → n ≡ items t.sells.now → b ≡ bid (market_given t).sells k →
+      Looks t o (buys + k) b (ltb 0 (at o.sold.now k)) (ltb (at o.sold.now k) b.amount)
+  sell_looks buys first count is =
+      let inside : k < items t.sells.now = omega arith in
+      let below : k < length (market_given t).sells = omega (arith, length_bids_in t.sells.now) in
+      let number : item_no (market_given t) (buys + k) ≡ Sell k =
+      nth_sell _ _ (buys + k) k (omega (arith, length_bids_in t.buys.now)) below
       in
-      rw (is, amount)
-      (record {
-        zone = ap (zone_of (market_given t)) no_is;
-        price = ap (price_of (market_given t)) (sym no_is);
-        within = sound.tables.proper.sells k below;
-        small = sound.tables.sell_prices k within;
-        few = omega (arith, sound.tables.buys, sound.tables.sells);
-        takes = rw no_is (has_some _ _);
-        gives = rw no_is (in_own_zone _ _ _);
-      })
+      rw is
+      (item_looks t o (buys + k) (Sell k) _ _ _ number refl (room_left _ _) refl refl
+      (sound.tables.proper.sells k below) (sound.tables.sell_prices k inside)
+      (omega (arith, sound.tables.buys, sound.tables.sells)))
 
 -- a bid's zone with what is noted of it
 module _

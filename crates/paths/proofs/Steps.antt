@@ -3,7 +3,8 @@
 --   ToHub m o s       s takes power in a zone, and gains no more than the zone's taker is worth
 --   FromHub m o s     s gives power in a zone, and costs no less than the zone's giver asks
 --   Across m o s      s leads over a line, and neither costs nor gains
-use Rattle.std.proofs.Common.{◌≡◌, ℕ, suc, ◌+◌, ◌<◌, ◌≤◌, ◌⊎◌, length, refl, subst, inl, inr, arith}
+use Rattle.std.proofs.Common.{◌≡◌, ℕ, suc, ◌+◌, ◌-◌, ◌<◌, ◌≤◌, ◌⊎◌, ltb, length, refl, subst, inl, inr, arith}
+use Rattle.std.proofs.lemmas.Bool.Decides.{nat_tests}
 use Rattle.hour.specs.Market.{Market, Outcome, Proper, line}
 use Rattle.network.specs.Network.{hub}
 use Rattle.network.specs.Ways.{Free, room, start, finish, step_cost, step_gain}
@@ -14,6 +15,10 @@ use Rattle.network.specs.declared.arcs.Step.TheVariants.{Forward, Backward}
 use Rattle.paths.specs.Bids.{bids, item_no, taking, giving, zone_of, price_of, giver, worth_at, own}
 use Rattle.paths.specs.Labels.{Over}
 use Rattle.paths.proofs.Bids.{buy_no, sell_no, own_most, ask_least}
+
+-- an item has room where it carries less than it can
+pub room_left : (carries most : ℕ) → ltb carries most ≡ ltb 0 (most - carries)
+room_left carries most = grind (arith, nat_tests)
 
 pub record ToHub (m : Market) (o : Outcome) (s : Step) : Type 0 where
   pub from : start m s < m.zones

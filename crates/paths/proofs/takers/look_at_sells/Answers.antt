@@ -1,12 +1,7 @@
-use Rattle.std.proofs.Common.{refl, arith}
 use Rattle.paths.proofs.Looked.{sell_looks}
 use Rattle.paths.proofs.takers.look_at_sells.Goals as goal
 
-pub look-requires : goal.look-requires
-look-requires c =
-    record {
-      looks =
-          rw c.row_count-buys.ensures
-          (sell_looks _ _ c.args.given.sound _ _ _ (omega (arith, c.loop-k-test.true, c.row_count-k-end.ensures)) c.row_in-bid.ensures refl);
-      looked = c.loop-k.invariant;
-    }
+pub look-requires-clause-looks : goal.look-requires-clause-looks
+look-requires-clause-looks c =
+    sell_looks _ _ c.args.given.sound c.loop-k-test.true _ c.row_count-buys.ensures c.row_count-k-end.ensures
+    c.row_in-bid.ensures
