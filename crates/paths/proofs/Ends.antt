@@ -1,25 +1,28 @@
 -- A line that is looked at: where it leads, and what raising a label over it leaves. Assumes nothing.
 --
 --   StepDone t o s ..    the way over the step s was taken where it is free and better, or nothing was done
-use Rattle.std.proofs.Common.{◌≡◌, ℕ, suc, ◌^◌, ◌<◌, ◌≤◌, Bool, true, false, cond, List, length, set, sym, refl, ap, ◌∙◌, inl, inr, arith}
+use Rattle.std.proofs.Common.{◌≡◌, ℕ, suc, ◌-◌, ◌^◌, ◌<◌, ◌≤◌, Bool, true, false, cond, ◌&&◌, ltb, List, length, set, sym, refl, ap, ◌∙◌, inl, inr, arith}
+use Rattle.std.proofs.lemmas.Bool.{ltb-true, ltb-false}
 use Rattle.std.proofs.lemmas.List.{length-map}
 use Rattle.hour.specs.Market.{Market, Outcome, at, line}
 use Rattle.hour.specs.declared.items.Line.{Line}
 use Rattle.network.proofs.Rows.{length_lines_in}
 use Rattle.network.specs.Tables.{items}
-use Rattle.network.specs.Ways.{Free, start, finish}
+use Rattle.network.specs.Network.{Among}
+use Rattle.network.specs.Ways.{room, start, finish, item}
 use Rattle.network.specs.declared.arcs.Item.TheVariants as items
 use Rattle.network.specs.declared.arcs.Step.{Step}
 use Rattle.network.specs.declared.arcs.Step.TheVariants.{Forward, Backward}
 use Rattle.network.specs.declared.tables.Amounts.{Amounts}
 use Rattle.network.specs.declared.tables.Tables.{Tables}
-use Rattle.paths.specs.Labels.{NoBetter, Over}
+use Rattle.paths.specs.Labels.{Leads, NoBetter, Over}
 use Rattle.network.specs.Given.{market_given, outcome_given}
 use Rattle.paths.specs.Search.{Sound, RelaxedBy, Settling, Raised, top}
 use Rattle.paths.specs.Ways.{way_at, way_better, over_line, worths, fars}
 use Rattle.paths.specs.declared.ways.Way.{Way}
 use Rattle.paths.proofs.Keys.{far_below}
 use Rattle.paths.proofs.Raised.{raise_done}
+use Rattle.paths.proofs.Steps.{room_left}
 use Rattle.paths.proofs.Zones.{far_is, keeps_same}
 
 pub record StepDone (t : Tables) (o : Amounts) (s : Step) (ways : List Way) (rose : ℕ) (ways' : List Way) : Type 0 where
@@ -40,96 +43,94 @@ relaxed_step :
 relaxed_step m o worth far s no_better v w leads some =
     rw (← leads.from, ← leads.to) (no_better (rw (← leads.to) at some))
 
+-- the way over a step that has room, or has none, as a test says
 module _
-    (t : Tables) (o : Amounts) (sound : Sound t o) (l : ℕ) (within : l < items t.lines.now)
-    (ln : Line) (is : ln ≡ line (market_given t).lines l)
+    (t : Tables) (o : Amounts) (sound : Sound t o) (ways : List Way) (settling : Settling t o ways) (ways' : List Way)
+    (rose l : ℕ) (s : Step) (v w : ℕ) (among : Among (market_given t) (item s))
+    (from : start (market_given t) s ≡ v) (to : finish (market_given t) s ≡ w) (v_in : v < t.zones) (w_in : w < t.zones)
+    (over : Leads (market_given t) (outcome_given o) v w s → Over (market_given t) (outcome_given o) l v w)
+  where
+    step_done :
+        (free : Bool) → free ≡ ltb 0 (room (market_given t) (outcome_given o) s) →
+        rose ≡ cond (free && way_better (way_at ways v) (way_at ways w)) 1 0 →
+        ways'
+        ≡ cond (free && way_better (way_at ways v) (way_at ways w))
+        (set ways v (over_line (way_at ways v) (way_at ways w))) ways →
+        StepDone t o s ways rose ways'
+    step_done true is answer new =
+        let leads : Leads (market_given t) (outcome_given o) v w s =
+        record { free = record { among = among; room = ltb-true _ _ (sym is) }; from = from; to = to }
+        in
+        let done = raise_done t o ways ways' l v w rose sound.tables.proper settling v_in w_in (over leads) answer new in
+        record {
+          raised = done.0;
+          relaxed = λ none.
+              relaxed_step _ _ (worths ways) (fars ways) s (λ some. rw (from, to) (done.1 none (rw to at some)));
+          few = one_at_most _ rose answer;
+        }
+    step_done false is none same =
+        rw (none, same)
+        (record {
+          raised = record { settling = settling; falls = omega arith; same = λ e. refl; bids = keeps_same ways };
+          relaxed = λ e u x leads some.
+              let room = leads.free.room in absurd (omega (arith, room, ltb-false _ _ (sym is)));
+          few = omega arith;
+        })
+
+module _
+    {t : Tables} {o : Amounts} {l : ℕ} {ln : Line} (sound : Sound t o) (within : l < items t.lines.now)
+    (is : ln ≡ line (market_given t).lines l) (ways : List Way) (settling : Settling t o ways)
   where
     below : l < length (market_given t).lines
     below = rw (length_lines_in t.lines.now) within
 
-    pub from_below : ln.from < t.zones
-    from_below = rw is (sound.tables.proper.from l below)
+    from_in : ln.from < t.zones
+    from_in = rw is (sound.tables.proper.from l below)
 
-    pub to_below : ln.to < t.zones
-    to_below = rw is (sound.tables.proper.to l below)
+    to_in : ln.to < t.zones
+    to_in = rw is (sound.tables.proper.to l below)
 
-    forward_free : at o.flow.now l < ln.capacity → Free (market_given t) (outcome_given o) (Forward (items.Line l))
-    forward_free room =
-        record { among = below; room = omega (arith, room, ap (λ (x : Line). x.capacity) is) }
+    -- a way is in the slice, and no way takes more lines than can be counted
+    ends_in :
+        (v w : ℕ) → v < t.zones → w < t.zones →
+        record { zones : (v < length ways) × (w < length ways); near : (way_at ways w).far < 2 ^ 32 }
+    ends_in v w v_in w_in =
+        let keyed = settling.keyed in
+        let near = far_below t.zones top _ _ keyed w w_in in
+        let long : length ways ≡ t.zones = sym (length-map ways (λ (x : Way). x.worth)) ∙ keyed.worth_long in
+        record {
+          zones = (omega arith, omega arith);
+          near = omega (arith, near, far_is ways w, sound.tables.zones);
+        }
 
-    backward_free : 0 < at o.flow.now l → Free (market_given t) (outcome_given o) (Backward (items.Line l))
-    backward_free some = record { among = below; room = some }
+    pub forward_in :
+        record { zones : (ln.from < length ways) × (ln.to < length ways); near : (way_at ways ln.to).far < 2 ^ 32 }
+    forward_in = ends_in ln.from ln.to from_in to_in
 
-    module _ (ways : List Way) (settling : Settling t o ways) where
-      pub ends_in :
-          (v w : ℕ) → v < t.zones → w < t.zones →
-          record { zones : (v < length ways) × (w < length ways); near : (way_at ways w).far < 2 ^ 32 }
-      ends_in v w v_in w_in =
-          let keyed = settling.keyed in
-          let near = far_below t.zones top _ _ keyed w w_in in
-          let long : length ways ≡ t.zones = sym (length-map ways (λ (x : Way). x.worth)) ∙ keyed.worth_long in
-          record {
-            zones = (omega arith, omega arith);
-            near = omega (arith, near, far_is ways w, sound.tables.zones);
-          }
+    pub backward_in :
+        record { zones : (ln.to < length ways) × (ln.from < length ways); near : (way_at ways ln.from).far < 2 ^ 32 }
+    backward_in = ends_in ln.to ln.from to_in from_in
 
-      module _ (ways' : List Way) (rose : ℕ) where
-        step_done :
-            (s : Step) (v w : ℕ) → v ≡ start (market_given t) s → w ≡ finish (market_given t) s → v < t.zones →
-            w < t.zones → Over (market_given t) (outcome_given o) l v w →
-            rose ≡ cond (way_better (way_at ways v) (way_at ways w)) 1 0 →
-            ways' ≡ cond (way_better (way_at ways v) (way_at ways w)) (set ways v (over_line (way_at ways v) (way_at ways w))) ways →
-            StepDone t o s ways rose ways'
-        step_done s v w from to v_in w_in over answer new =
-            let done = raise_done t o ways ways' l v w rose sound.tables.proper settling v_in w_in over answer new in
-            record {
-              raised = done.0;
-              relaxed = λ none.
-                  relaxed_step _ _ (worths ways) (fars ways) s (λ some. rw (← from, ← to) (done.1 none (rw (← to) at some)));
-              few = one_at_most _ rose answer;
-            }
+    module _ {ways' : List Way} {rose : ℕ} where
+      pub forward_done :
+          rose ≡ cond (ltb (at o.flow.now l) ln.capacity && way_better (way_at ways ln.from) (way_at ways ln.to)) 1 0 →
+          ways'
+          ≡ cond (ltb (at o.flow.now l) ln.capacity && way_better (way_at ways ln.from) (way_at ways ln.to))
+          (set ways ln.from (over_line (way_at ways ln.from) (way_at ways ln.to))) ways →
+          StepDone t o (Forward (items.Line l)) ways rose ways'
+      forward_done =
+          step_done t o sound ways settling ways' rose l (Forward (items.Line l)) ln.from ln.to below
+          (ap (λ (x : Line). x.from) (sym is)) (ap (λ (x : Line). x.to) (sym is)) from_in to_in inl
+          (ltb (at o.flow.now l) ln.capacity)
+          (room_left _ _ ∙ ap (λ (x : Line). ltb 0 (x.capacity - at o.flow.now l)) is)
 
-        pub forward_done :
-            at o.flow.now l < ln.capacity →
-            rose ≡ cond (way_better (way_at ways ln.from) (way_at ways ln.to)) 1 0 →
-            ways'
-            ≡ cond (way_better (way_at ways ln.from) (way_at ways ln.to))
-            (set ways ln.from (over_line (way_at ways ln.from) (way_at ways ln.to))) ways →
-            StepDone t o (Forward (items.Line l)) ways rose ways'
-        forward_done room =
-            let from_is = ap (λ (x : Line). x.from) is in
-            let to_is = ap (λ (x : Line). x.to) is in
-            step_done (Forward (items.Line l)) ln.from ln.to from_is to_is from_below to_below
-            (inl (record { free = forward_free room; from = sym from_is; to = sym to_is }))
-
-        pub backward_done :
-            0 < at o.flow.now l →
-            rose ≡ cond (way_better (way_at ways ln.to) (way_at ways ln.from)) 1 0 →
-            ways'
-            ≡ cond (way_better (way_at ways ln.to) (way_at ways ln.from))
-            (set ways ln.to (over_line (way_at ways ln.to) (way_at ways ln.from))) ways →
-            StepDone t o (Backward (items.Line l)) ways rose ways'
-        backward_done some_flow =
-            let from_is = ap (λ (x : Line). x.from) is in
-            let to_is = ap (λ (x : Line). x.to) is in
-            step_done (Backward (items.Line l)) ln.to ln.from to_is from_is to_below from_below
-            (inr (record { free = backward_free some_flow; from = sym to_is; to = sym from_is }))
-
-      -- a step that is not free is left alone
-      none_done : (s : Step) → (Free (market_given t) (outcome_given o) s → ⊥) → StepDone t o s ways 0 ways
-      none_done s closed =
-          record {
-            raised =
-                record { settling = settling; falls = omega arith; same = λ e. refl; bids = keeps_same ways };
-            relaxed = λ none v w leads some. absurd (closed leads.free);
-            few = omega arith;
-          }
-
-      pub forward_closed : ln.capacity ≤ at o.flow.now l → StepDone t o (Forward (items.Line l)) ways 0 ways
-      forward_closed full =
-          none_done (Forward (items.Line l)) (λ free.
-          let room = free.room in omega (arith, full, room, ap (λ (x : Line). x.capacity) is))
-
-      pub backward_closed : at o.flow.now l ≡ 0 → StepDone t o (Backward (items.Line l)) ways 0 ways
-      backward_closed empty =
-          none_done (Backward (items.Line l)) (λ free. let room = free.room in omega (arith, empty, room))
+      pub backward_done :
+          rose ≡ cond (ltb 0 (at o.flow.now l) && way_better (way_at ways ln.to) (way_at ways ln.from)) 1 0 →
+          ways'
+          ≡ cond (ltb 0 (at o.flow.now l) && way_better (way_at ways ln.to) (way_at ways ln.from))
+          (set ways ln.to (over_line (way_at ways ln.to) (way_at ways ln.from))) ways →
+          StepDone t o (Backward (items.Line l)) ways rose ways'
+      backward_done =
+          step_done t o sound ways settling ways' rose l (Backward (items.Line l)) ln.to ln.from below
+          (ap (λ (x : Line). x.to) (sym is)) (ap (λ (x : Line). x.from) (sym is)) to_in from_in inr
+          (ltb 0 (at o.flow.now l)) refl

@@ -1,5 +1,8 @@
 -- Lines one after another, round after round: what holds when no label has risen. Assumes nothing.
-use Rattle.std.proofs.Common.{◌≡◌, ℕ, ◌+◌, ◌<◌, ◌≤◌, Bool, true, false, List, length, sym, refl, ap, ◌∙◌, subst, inl, inr, ⊎_elim, arith}
+--
+--   LineDone ..    raising labels over a line, forth and back: at most two rose, and where none did, the line raises none
+--   Rising ..      the same of the first k lines of a round, in its order
+use Rattle.std.proofs.Common.{◌≡◌, ℕ, ◌+◌, ◌*◌, ◌<◌, ◌≤◌, Bool, true, false, List, length, sym, refl, ap, ◌∙◌, subst, inl, inr, arith}
 use Rattle.std.proofs.lemmas.Bool.{cases_lt}
 use Rattle.network.proofs.Rows.{length_lines_in}
 use Rattle.network.specs.Tables.{items}
@@ -15,7 +18,7 @@ use Rattle.paths.specs.declared.ways.Way.{Way}
 use Rattle.paths.proofs.Ends.{StepDone}
 use Rattle.paths.proofs.Zones.{keeps_both}
 
-pub turned_below : (b : Bool) (n j : ℕ) → j < n → turned b n j < n
+turned_below : (b : Bool) (n j : ℕ) → j < n → turned b n j < n
 turned_below true n j below = omega arith
 turned_below false n j below = below
 
@@ -23,62 +26,97 @@ turned_back : (b : Bool) (n j : ℕ) → j < n → turned b n (turned b n j) ≡
 turned_back true n j below = omega arith
 turned_back false n j below = refl
 
-module _ (t : Tables) (o : Amounts) (ways : List Way) where
-  pub raised_more :
-      (ways₁ ways₂ : List Way) (a b : ℕ) → Raised t o ways a ways₁ → Raised t o ways₁ b ways₂ → Raised t o ways (a + b) ways₂
-  raised_more ways₁ ways₂ a b first second =
-      record {
-        settling = second.settling;
-        falls = omega (arith, first.falls, second.falls);
-        same = λ none. second.same (omega arith) ∙ first.same (omega arith);
-        bids = keeps_both _ _ _ first.bids second.bids;
-      }
+-- what raising labels over line l comes to
+abbrev pub LineDone : Tables → Amounts → ℕ → List Way → ℕ → List Way → Type 0
+LineDone t o l ways rose ways' =
+    record {
+      raised : Raised t o ways rose ways';
+      relaxed : rose ≡ 0 → Relaxed (market_given t) (outcome_given o) (worths ways) (fars ways) l;
+      few : rose ≤ 2;
+    }
 
-  -- a line, forth and back
-  pub line_done :
-      (ways₁ ways₂ : List Way) (l a b : ℕ) → StepDone t o (Forward (Line l)) ways a ways₁ →
-      StepDone t o (Backward (Line l)) ways₁ b ways₂ →
-      Raised t o ways (a + b) ways₂
-      × (a + b ≡ 0 → Relaxed (market_given t) (outcome_given o) (worths ways) (fars ways) l)
-  line_done ways₁ ways₂ l a b forth back = (
-    raised_more ways₁ ways₂ a b forth.raised back.raised,
-    λ none. (
-      forth.relaxed (omega arith),
-      subst (λ ws. RelaxedBy (market_given t) (outcome_given o) (worths ws) (fars ws) (Backward (Line l)))
-          (forth.raised.same (omega arith)) (back.relaxed (omega arith)),
-    ),
-  )
+raised_more :
+    {t : Tables} {o : Amounts} {ways ways₁ ways₂ : List Way} {a b : ℕ} → Raised t o ways a ways₁ →
+    Raised t o ways₁ b ways₂ → Raised t o ways (a + b) ways₂
+raised_more first second =
+    record {
+      settling = second.settling;
+      falls = omega (arith, first.falls, second.falls);
+      same = λ none. second.same (omega arith) ∙ first.same (omega arith);
+      bids = keeps_both _ _ _ first.bids second.bids;
+    }
 
-  -- the first k lines raise nothing, and so does the next
-  pub relaxed_more :
-      (ways' : List Way) (from_last : Bool) (n k l a b : ℕ) →
-      (a ≡ 0 → (j : ℕ) → j < k → Relaxed (market_given t) (outcome_given o) (worths ways) (fars ways) (turned from_last n j)) →
-      (b ≡ 0 → Relaxed (market_given t) (outcome_given o) (worths ways) (fars ways) l) → l ≡ turned from_last n k →
-      Raised t o ways b ways' →
-      a + b ≡ 0 → (j : ℕ) → j < k + 1 →
+-- a line, forth and back
+pub line_done :
+    {t : Tables} {o : Amounts} {ways ways₁ ways₂ : List Way} {l a b : ℕ} →
+    StepDone t o (Forward (Line l)) ways a ways₁ → StepDone t o (Backward (Line l)) ways₁ b ways₂ →
+    LineDone t o l ways (a + b) ways₂
+line_done {t} {o} {l = l} forth back =
+    record {
+      raised = raised_more forth.raised back.raised;
+      relaxed = λ none. (
+        forth.relaxed (omega arith),
+        subst (λ ws. RelaxedBy (market_given t) (outcome_given o) (worths ws) (fars ws) (Backward (Line l)))
+            (forth.raised.same (omega arith)) (back.relaxed (omega arith)),
+      );
+      few = omega (arith, forth.few, back.few);
+    }
+
+-- the first k of n lines, in the order of the round
+pub record Rising
+    (t : Tables) (o : Amounts) (ways : List Way) (from_last : Bool) (n k rose : ℕ) (ways' : List Way) : Type 0 where
+  pub raised : Raised t o ways rose ways'
+  pub few : rose ≤ 2 * k
+  pub relaxed :
+      rose ≡ 0 → (j : ℕ) → j < k →
       Relaxed (market_given t) (outcome_given o) (worths ways') (fars ways') (turned from_last n j)
-  relaxed_more ways' from_last n k l a b before here is raised none j below =
-      let Here : List Way → Type 0 =
-      λ ws. Relaxed (market_given t) (outcome_given o) (worths ws) (fars ws) (turned from_last n j)
-      in
-      let a_none : a ≡ 0 = omega arith in
-      let b_none : b ≡ 0 = omega arith in
-      subst Here (sym (raised.same b_none))
-      (⊎_elim
-      (λ (less : j < k). before a_none j less)
-      (λ (last : k ≤ j).
-      let same : l ≡ turned from_last n j = is ∙ ap (turned from_last n) (omega arith) in
-      subst (λ x. Relaxed (market_given t) (outcome_given o) (worths ways) (fars ways) x) same (here b_none))
-      (cases_lt j k))
 
-  pub relaxed_all :
-      (from_last : Bool) (n k : ℕ) → n ≤ k →
-      ((j : ℕ) → j < k → Relaxed (market_given t) (outcome_given o) (worths ways) (fars ways) (turned from_last n j)) →
-      (l : ℕ) → l < n → Relaxed (market_given t) (outcome_given o) (worths ways) (fars ways) l
-  relaxed_all from_last n k all each l below =
-      subst (λ x. Relaxed (market_given t) (outcome_given o) (worths ways) (fars ways) x) (turned_back from_last n l below)
-      (each (turned from_last n l) (omega (arith, turned_below from_last n l below)))
+module _
+    {t : Tables} {o : Amounts} {ways ways' : List Way} {from_last : Bool} {n k rose : ℕ}
+    (before : Rising t o ways from_last n k rose ways')
+  where
+    pub rising_on :
+        {l b : ℕ} {ways₂ : List Way} → l ≡ turned from_last n k → LineDone t o l ways' b ways₂ →
+        Rising t o ways from_last n (k + 1) (rose + b) ways₂
+    rising_on {l} {b} {ways₂} is here =
+        record {
+          raised = raised_more before.raised here.raised;
+          few = omega (arith, before.few, here.few);
+          relaxed = λ none j below.
+              let Here : List Way → Type 0 =
+              λ ws. Relaxed (market_given t) (outcome_given o) (worths ws) (fars ws) (turned from_last n j)
+              in
+              let b_none : b ≡ 0 = omega arith in
+              subst Here (sym (here.raised.same b_none))
+              (elim (cases_lt j k) [
+                | inl less ↦ before.relaxed (omega arith) j less
+                | inr last ↦
+                    let same : l ≡ turned from_last n j = is ∙ ap (turned from_last n) (omega arith) in
+                    subst (λ x. Relaxed (market_given t) (outcome_given o) (worths ways') (fars ways') x) same
+                    (here.relaxed b_none)
+              ]);
+        }
 
+    -- a whole round
+    pub risen :
+        n ≡ items t.lines.now → n ≤ k →
+        record {
+          raised : Raised t o ways rose ways';
+          relaxed :
+              rose ≡ 0 → (l : ℕ) → l < items t.lines.now →
+              Relaxed (market_given t) (outcome_given o) (worths ways') (fars ways') l;
+        }
+    risen count all =
+        record {
+          raised = before.raised;
+          relaxed = λ none l below.
+              let inside : l < n = omega arith in
+              subst (λ x. Relaxed (market_given t) (outcome_given o) (worths ways') (fars ways') x)
+              (turned_back from_last n l inside)
+              (before.relaxed none (turned from_last n l) (omega (arith, turned_below from_last n l inside)));
+        }
+
+module _ (t : Tables) (o : Amounts) (ways : List Way) where
   pub best_at_rest :
       Settling t o ways →
       ((l : ℕ) → l < items t.lines.now → Relaxed (market_given t) (outcome_given o) (worths ways) (fars ways) l) →
