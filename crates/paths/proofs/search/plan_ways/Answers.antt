@@ -3,7 +3,7 @@ use Rattle.hour.specs.Market.{at}
 use Rattle.paths.specs.Plan.{Planned}
 use Rattle.network.specs.Given.{market_given, outcome_given}
 use Rattle.paths.specs.Ways.{plan_of}
-use Rattle.paths.proofs.Searched.{nothing_looked, settling_start, taker_known, planned_ways}
+use Rattle.paths.proofs.Searched.{nothing_looked, settling_start, all_noted, planned_ways}
 use Rattle.paths.proofs.Shown.{plan_shown}
 use Rattle.paths.proofs.search.plan_ways.Goals as goal
 
@@ -16,7 +16,7 @@ settle-requires c = settling_start _ _ c.args.given.sound _ c.look_at_sells.ensu
 pub ways_out-requires-clause-takers : goal.ways_out-requires-clause-takers
 ways_out-requires-clause-takers c v below =
     ap (λ xs. at xs v) c.settle.ensures.bids.out
-    ∙ taker_known _ _ c.args.given.sound _ _ c.look_at_sells.ensures.takers v below
+    ∙ (all_noted c.args.given.tables c.look_at_sells.ensures.takers).number v below
 
 pub returns : goal.returns
 returns c =
