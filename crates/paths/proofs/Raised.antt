@@ -60,7 +60,8 @@ module _
     (proper : Proper (market_given t)) (before : Settling t o ways) (v_below : v < t.zones) (w_below : w < t.zones)
     (over : Over (market_given t) (outcome_given o) l v w)
     (answer : rose ≡ cond (way_better (way_at ways v) (way_at ways w)) 1 0)
-    (new : ways' ≡ cond (way_better (way_at ways v) (way_at ways w)) (set ways v (over_line (way_at ways v) (way_at ways w))) ways)
+    (new : ways'
+    ≡ cond (way_better (way_at ways v) (way_at ways w)) (set ways v (over_line (way_at ways v) (way_at ways w))) ways)
   where
     better_rises : way_better (way_at ways v) (way_at ways w) ≡ rises (worths ways) (fars ways) v w
     better_rises = sym (rw (worth_is ways v, worth_is ways w, far_is ways v, far_is ways w))
