@@ -36,15 +36,16 @@ onward m o worth far v l =
     ((line m.lines l).from == v && (nat_lt 0 (room m o (Forward (Line l))) && nearer worth far v (line m.lines l).to))
     || ((line m.lines l).to == v && (nat_lt 0 (room m o (Backward (Line l))) && nearer worth far v (line m.lines l).from))
 
+abbrev pub first_onward : Market → Outcome → List ℕ → List ℕ → ℕ → Option ℕ
+first_onward m o worth far v = first (length m.lines) (λ l. when (onward m o worth far v l) l)
+
 abbrev pub line_no : Market → Option ℕ → ℕ
 line_no m None = 0
 line_no m (Some l) = suc (bids m + l)
 
 abbrev pub out_no : Market → Outcome → List ℕ → List ℕ → ℕ → ℕ
 out_no m o worth far v =
-    cond (at worth v == 0) 0
-    (cond (at far v == 0) (numbered (taker m o v))
-    (line_no m (first (length m.lines) (λ l. when (onward m o worth far v l) l))))
+    cond (at worth v == 0) 0 (cond (at far v == 0) (numbered (taker m o v)) (line_no m (first_onward m o worth far v)))
 
 pub record Planned (m : Market) (o : Outcome) (t : Plan) : Type 0 where
   pub labels : BestLabels m o t.worth t.far

@@ -48,13 +48,13 @@ fn ways_out(given: Given, ways: &mut [Way])
         if ways[v].far == 0 {
             continue;
         }
-        ways[v].out = 0;
         for l in 0..row_count(given.tables.lines) {
             if leads_onward(given, ways, v, l) {
                 ways[v].out = bids + l as u64 + 1;
                 continue 'zones;
             }
         }
+        ways[v].out = 0;
     }
 }
 
