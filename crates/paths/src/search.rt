@@ -19,6 +19,7 @@ use hour::Line;
 use network::{Amounts, Tables, row_count, row_in};
 
 // Whether line l leads from zone v, through what is left free, to a zone with a way worth as much, over one line less.
+#[tactic(auto, using(crate::proofs::Zones::nearer_is, std::proofs::lemmas::Bool::Decides::nat_tests))]
 fn leads_onward(given: Given, ways: &[Way], v: usize, l: usize) -> bool
     requires within { (l < items given.tables.lines.now) × (v < given.tables.zones) }
     requires zones { length ways.now ≡ given.tables.zones }
