@@ -1,10 +1,10 @@
 -- The best of several. Assumes nothing: these are definitions.
 --
+--   better beats n o  n beside the best so far
 --   best n ok beats   of those below n that are ok, the first that no other beats; nothing if none is ok
 --   numbered o        how a table has it: 0 for nothing, else one more than the number
 use Rattle.std.specs.Prelude.{ℕ, zero, suc, Bool, cond, Some, None, Option}
 
--- n beside the best so far
 abbrev pub better : (ℕ → ℕ → Bool) → ℕ → Option ℕ → Option ℕ
 better beats n None = Some n
 better beats n (Some k) = cond (beats n k) (Some n) (Some k)

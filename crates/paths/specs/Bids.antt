@@ -4,6 +4,10 @@
 --   item_no m k       the item with number k of all: buys, then sells, then lines
 --   taking i          the step along a bid from its zone to the hub: a buy has more, a sell is taken back
 --   giving i          the step from the hub to the bid's zone: a sell has more, a buy is taken back
+--   zone_of m i       the zone of the bid i; of a line, the zone where it begins
+--   price_of m i      the price of the bid i; of a line 0
+--   takes m o z k     bid k lies in zone z and can take more power; gives, that it can give more
+--   dearer m j k      bid j has a higher price than bid k; cheaper, a lower one
 --   taker m o z       the dearest bid of zone z that can take, the first among equals
 --   giver m o z       the cheapest bid of zone z that can give, the first among equals
 --   worth_at m b      what the bid b is worth as a table has it: 0 for no bid, else one more than its price
@@ -44,7 +48,6 @@ price_of m (Buy k) = (bid m.buys k).price
 price_of m (Sell k) = (bid m.sells k).price
 price_of m (Line k) = 0
 
--- bid k lies in zone z and can take more power, or give more
 abbrev pub takes : Market → Outcome → ℕ → ℕ → Bool
 takes m o z k = zone_of m (item_no m k) == z && nat_lt 0 (room m o (taking (item_no m k)))
 

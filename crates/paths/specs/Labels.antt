@@ -1,5 +1,6 @@
 -- Labels: what each zone's best way to the hub is worth, and over how many lines. Assumes nothing: these are definitions.
 --
+--   Leads m o v w s      the step s is free and leads from zone v to zone w
 --   Over m o l v w       line l leads from zone v to zone w, forward or backward, through what is left free
 --   Along m o k v c      a way of k free lines leads from zone v to a zone whose own taker is worth c
 --   NoBetter c k a b     a way worth c over k lines is no better than one worth a over b lines; a way is better if it is

@@ -1,12 +1,17 @@
 -- What a search leaves in its tables, and the closed ways that they show. Assumes nothing: these are definitions.
 --
 --   Plan                 the tables, a number for each zone: worth and far (see Labels), out, ask, giver
---   onward, out_no       how a zone's way leaves it: by its own taker, or by the first line that leads to a zone whose way is
---                        worth the same over one line less; as a table has it: 0 for no way, else one more than the item's number
+--   nearer worth far v w zone w has a way worth as much as that of zone v, over one line less
+--   onward m o ..        line l leads from zone v, through what is left free, to such a zone
+--   first_onward m o ..  the first line that leads on from zone v
+--   line_no m l          a line as a table has it: 0 for none, else one more than its number among all items
+--   out_no               how a zone's way leaves it, as a table has it: by its own taker, or by the first line that leads on
 --   Planned m o t        t is what a search of the outcome o leaves: labels, ways out, each zone's giver and its price
---   pays t v             somebody in zone v gives for less than the zone's way to the hub is worth
+--   asks_less, pays t v  somebody in zone v gives for less than the zone's way to the hub is worth
+--   step_out m v i       the step along the item i out of zone v
 --   out_step, way_out    the step by which the way leaves a zone; all steps of the way, over so many lines
 --   closed_way m t v     from the hub along the giver's bid to zone v, and from there to the hub
+--   first_paying m t     the first zone that pays
 use Rattle.std.specs.Prelude.{◌≡◌, ℕ, zero, suc, ◌+◌, ◌-◌, ◌<◌, Bool, cond, ◌&&◌, ◌||◌, List, [], ◌∷◌, length, Some, None, Option, ◌==◌, nat_lt}
 use Rattle.hour.specs.First.{when, first}
 use Rattle.hour.specs.Market.{Market, Outcome, at, line}
@@ -26,11 +31,9 @@ pub record Plan : Type 0 where
   pub ask : List ℕ
   pub giver : List ℕ
 
--- zone w has a way worth as much as that of zone v, over one line less
 abbrev pub nearer : List ℕ → List ℕ → ℕ → ℕ → Bool
 nearer worth far v w = at worth w == at worth v && suc (at far w) == at far v
 
--- line l leads from zone v, through what is left free, to such a zone
 abbrev pub onward : Market → Outcome → List ℕ → List ℕ → ℕ → ℕ → Bool
 onward m o worth far v l =
     ((line m.lines l).from == v && (nat_lt 0 (room m o (Forward (Line l))) && nearer worth far v (line m.lines l).to))
@@ -64,7 +67,6 @@ asks_less worth ask v = nat_lt 0 (at ask v) && nat_lt (at ask v) (at worth v)
 abbrev pub pays : Plan → ℕ → Bool
 pays t v = asks_less t.worth t.ask v
 
--- the step along an item out of zone v
 abbrev pub step_out : Market → ℕ → Item → Step
 step_out m v (Buy k) = taking (Buy k)
 step_out m v (Sell k) = taking (Sell k)
@@ -80,6 +82,5 @@ way_out m t (suc k) v = out_step m t v ∷ way_out m t k (finish m (out_step m t
 abbrev pub closed_way : Market → Plan → ℕ → List Step
 closed_way m t v = giving (item_no m (at t.giver v - 1)) ∷ way_out m t (at t.far v) v
 
--- the first zone that pays
 abbrev pub first_paying : Market → Plan → Option ℕ
 first_paying m t = first m.zones (λ v. when (pays t v) v)

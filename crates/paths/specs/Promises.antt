@@ -1,5 +1,6 @@
 -- What a search promises of its tables. Assumes nothing.
 --
+--   WayShown m o t v c the way from zone v that the tables show leads to the hub through what is left free, and is worth c
 --   Shortest m o t     no closed way costs less than it gains; each zone's way is shown with what it is worth, and no free way
 --                      from the zone to the hub is worth more; where none is shown, none leads there
 --   PaysOff m o t v    the closed way through zone v that the tables show is free, leaves no node twice, and gains more than
@@ -9,6 +10,7 @@
 --   SomePlan           every outcome has such tables
 --   PlanShown          tables that a search leaves show the one or the other
 --   RingsEven          no closed way that avoids the hub gains or costs anything
+--   prices_of t        what the labels say as prices
 --   LowestLabels       where no zone pays, the labels are the lowest prices, 0 where no way leads to the hub
 use Rattle.std.specs.Prelude.{◌≡◌, ℕ, ◌+◌, ◌-◌, ◌<◌, ◌≤◌, ◌≢◌, List, map, Some, None, Option}
 use Rattle.std.specs.List.{AllByRecursion}
@@ -19,7 +21,6 @@ use Rattle.network.specs.Ways.{start, Free, Links, Once, way_cost, way_gain}
 use Rattle.network.specs.declared.arcs.Step.{Step}
 use Rattle.paths.specs.Plan.{Plan, Planned, closed_way, way_out, first_paying}
 
--- the way from zone v that the tables show, worth c
 pub record WayShown (m : Market) (o : Outcome) (t : Plan) (v c : ℕ) : Type 0 where
   pub links : Links m v (way_out m t (at t.far v) v) (hub m)
   pub free : AllByRecursion (Free m o) (way_out m t (at t.far v) v)
@@ -60,7 +61,6 @@ RingsEven =
     (m : Market) (a : ℕ) (ss : List Step) → Links m a ss a → AllByRecursion (λ s. start m s ≢ hub m) ss →
     (way_gain m ss ≡ 0) × (way_cost m ss ≡ 0)
 
--- what the labels say as prices
 abbrev pub prices_of : Plan → List ℕ
 prices_of t = map (λ c. c - 1) t.worth
 

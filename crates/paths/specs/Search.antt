@@ -4,13 +4,17 @@
 --   Spaced t ..            there is an amount for each bid and a flow for each line
 --   Sound t o              both
 --   Looks t o n b ..       what is seen of the bid with number n
---   Takers, Givers         two lists have, for each zone, what the best taker among the first n bids is worth and its number; or
---                          the best giver
+--   Noted m ok beats n ..  two lists have, for each zone, what the best among the first n bids that are ok there is worth, and its
+--                          number
+--   Takers, Givers         the same of the best taker; of the best giver
 --   Looked t o n ways      ways have both of the first n bids, and none leads over a line yet
 --   rises worth far v w    the way over a line from v to w is better than the one that v has
 --   Reaching m o top worth far    each label above 0 is that of a free way, no own taker is better than its zone's label, and
 --                          the labels are keyed (see Keys)
+--   RelaxedBy m o worth far s     no way over the step s is better than the label of the zone where it begins
 --   Relaxed m o worth far l       line l, forward or backward, raises no label
+--   turned from_last n j          number j of n, counted from the first or from the last
+--   top                           one more than every price
 --   Settling, Raised       what holds of labels while they are raised; what raising some of them keeps
 --   KeepsBids, KeepsAllButOut     of two slices of ways: what a change of the labels, or of the ways out, leaves as it was
 use Rattle.std.specs.Prelude.{◌≡◌, ℕ, suc, ◌+◌, ◌-◌, ◌^◌, ◌<◌, ◌≤◌, Bool, cond, ◌&&◌, ◌||◌, List, length, ◌==◌, nat_lt}
@@ -32,7 +36,6 @@ use Rattle.paths.specs.Labels.{Along, Leads, NoBetter}
 use Rattle.paths.specs.Ways.{worths, fars, outs, asks, givers}
 use Rattle.paths.specs.declared.ways.Way.{Way}
 
--- tables of a proper market, small enough to count in 64 bits
 pub record Bounded (t : Tables) : Type 0 where
   pub proper : Proper (market_given t)
   pub zones : t.zones < 2 ^ 32
@@ -43,7 +46,6 @@ pub record Bounded (t : Tables) : Type 0 where
   pub sell_prices : (k : ℕ) → k < items t.sells.now → (bid (market_given t).sells k).price < 2 ^ 32
   pub capacities : (i : Item) → Among (market_given t) i → capacity (market_given t) i < 2 ^ 63
 
--- an amount for each bid and a flow for each line
 pub record Spaced (t : Tables) (bought sold flow : List ℕ) : Type 0 where
   pub buys : items t.buys.now ≤ length bought
   pub sells : items t.sells.now ≤ length sold
@@ -53,7 +55,6 @@ pub record Sound (t : Tables) (o : Amounts) : Type 0 where
   pub tables : Bounded t
   pub spaced : Spaced t o.bought.now o.sold.now o.flow.now
 
--- tables have, for each zone, the best among the first n bids that are ok there: what it is worth, and its number
 pub record Noted
     (m : Market) (ok : ℕ → ℕ → Bool) (beats : ℕ → ℕ → Bool) (n : ℕ) (worths numbers : List ℕ) : Type 0 where
   pub worth : (z : ℕ) → z < m.zones → at worths z ≡ worth_at m (best n (ok z) beats)
@@ -92,7 +93,6 @@ pub record Reaching (m : Market) (o : Outcome) (top : ℕ) (worth far : List ℕ
   pub none : (v : ℕ) → v < m.zones → at worth v ≡ 0 → at far v ≡ 0
   pub own : (v : ℕ) → v < m.zones → 0 < own m o v → NoBetter (own m o v) 0 (at worth v) (at far v)
 
--- no way over the step s beats the label of the zone where it begins
 abbrev pub RelaxedBy : Market → Outcome → List ℕ → List ℕ → Step → Type 0
 RelaxedBy m o worth far s =
     (v w : ℕ) → Leads m o v w s → 0 < at worth w → NoBetter (at worth w) (suc (at far w)) (at worth v) (at far v)
@@ -101,11 +101,9 @@ abbrev pub Relaxed : Market → Outcome → List ℕ → List ℕ → ℕ → Ty
 Relaxed m o worth far l =
     RelaxedBy m o worth far (Forward (Line l)) × RelaxedBy m o worth far (Backward (Line l))
 
--- number j of n, counted from the first or from the last
 abbrev pub turned : Bool → ℕ → ℕ → ℕ
 turned from_last n j = cond from_last (n - 1 - j) j
 
--- one more than every price
 abbrev pub top : ℕ
 top = 2 ^ 32
 

@@ -1,7 +1,10 @@
 -- What a search finds for each zone, as a slice has it, and the plan that it makes. Assumes nothing: these are definitions.
 --
+--   no_way              no way leads from the zone, and nobody there gives
 --   way_at ws v         the way of zone v; past the last zone there is none
---   worths ws, ..       what the ways are worth, zone by zone; over how many lines; and so on
+--   worths, fars ws     zone by zone, what the ways are worth, and over how many lines
+--   outs ws             by which item they leave the zones
+--   asks, givers ws     what the zones' cheapest givers ask, and which bids these are
 --   plan_of ws          the plan that they make
 --   way_pays w          somebody gives for less than the way is worth
 --   way_nearer v w      w is worth as much as v, over one line less
