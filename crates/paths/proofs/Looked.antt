@@ -1,5 +1,5 @@
 -- A bid that is looked at: where it lies, and whether it takes or gives. Assumes nothing.
-use Rattle.std.proofs.Common.{◌≡◌, ℕ, ◌+◌, ◌^◌, ◌<◌, Bool, cond, ◌&&◌, ltb, List, length, set, sym, refl, ap, ◌∙◌, arith}
+use Rattle.std.proofs.Common.{◌≡◌, ℕ, ◌+◌, ◌^◌, ◌<◌, Bool, true, false, cond, ltb, List, length, set, sym, refl, ap, ◌∙◌, arith}
 use Rattle.std.proofs.Math.Seq.{map-set_same}
 use Rattle.std.proofs.lemmas.List.{length-set}
 use Rattle.std.proofs.lemmas.Bool.{eq-eqb}
@@ -16,9 +16,9 @@ use Rattle.network.specs.declared.tables.Tables.{Tables}
 use Rattle.paths.specs.Bids.{item_no, taking, giving, zone_of, price_of}
 use Rattle.network.specs.Given.{market_given, outcome_given}
 use Rattle.paths.specs.Search.{Sound, Looks, Looked}
-use Rattle.paths.specs.Ways.{no_way, way_at}
+use Rattle.paths.specs.Ways.{no_way, way_at, taker_noted, giver_noted}
 use Rattle.paths.specs.declared.ways.Way.{Way}
-use Rattle.paths.proofs.Noted.{lower, takers_more, givers_more}
+use Rattle.paths.proofs.Noted.{takers_more, givers_more}
 use Rattle.paths.proofs.Steps.{room_left}
 use Rattle.paths.proofs.Zones.{worth_is, out_is, ask_is, giver_is, replaced}
 
@@ -68,37 +68,51 @@ module _ (t : Tables) (o : Amounts) (sound : Sound t o) {n k : ℕ} {b : Bid} (w
       (sound.tables.proper.sells k below) (sound.tables.sell_prices k inside)
       (omega (arith, sound.tables.buys, sound.tables.sells)))
 
+-- what is noted of a bid as a taker and as a giver, number by number
+both_noted :
+    (b c : Bool) (p n : ℕ) (w w₁ w₂ : Way) → w₁ ≡ cond b (record w { worth = p; out = n }) w →
+    w₂ ≡ cond c (record w₁ { ask = p; giver = n }) w₁ →
+    record {
+      worth : w₂.worth ≡ cond b p w.worth;
+      out : w₂.out ≡ cond b n w.out;
+      ask : w₂.ask ≡ cond c p w.ask;
+      giver : w₂.giver ≡ cond c n w.giver;
+      far : w₂.far ≡ w.far;
+      asked : w₁.ask ≡ w.ask;
+    }
+both_noted true true p n w w₁ w₂ taken given =
+    rw (given, taken) (record { worth = refl; out = refl; ask = refl; giver = refl; far = refl; asked = refl })
+both_noted true false p n w w₁ w₂ taken given =
+    rw (given, taken) (record { worth = refl; out = refl; ask = refl; giver = refl; far = refl; asked = refl })
+both_noted false true p n w w₁ w₂ taken given =
+    rw (given, taken) (record { worth = refl; out = refl; ask = refl; giver = refl; far = refl; asked = refl })
+both_noted false false p n w w₁ w₂ taken given =
+    rw (given, taken) (record { worth = refl; out = refl; ask = refl; giver = refl; far = refl; asked = refl })
+
 -- a bid's zone with what is noted of it
 module _
-    (t : Tables) (o : Amounts) (n : ℕ) (b : Bid) (tk gv : Bool) (looks : Looks t o n b tk gv)
-    (ways : List Way) (looked : Looked t o n ways) (w : Way) (dearer cheaper : Bool)
-    (takes_over : dearer ≡ ltb (way_at ways b.zone).worth (b.price + 1))
-    (gives_over : cheaper ≡ lower (way_at ways b.zone).ask (b.price + 1))
-    (worth : w.worth ≡ cond (tk && dearer) (b.price + 1) (way_at ways b.zone).worth)
-    (out : w.out ≡ cond (tk && dearer) (n + 1) (way_at ways b.zone).out)
-    (ask : w.ask ≡ cond (gv && cheaper) (b.price + 1) (way_at ways b.zone).ask)
-    (giver : w.giver ≡ cond (gv && cheaper) (n + 1) (way_at ways b.zone).giver)
-    (far : w.far ≡ (way_at ways b.zone).far)
+    {t : Tables} {o : Amounts} {n : ℕ} {b : Bid} {tk gv : Bool} (looks : Looks t o n b tk gv) {ways : List Way}
+    (looked : Looked t o n ways) {w₁ w₂ : Way} (taken : w₁ ≡ taker_noted tk b.price n (way_at ways b.zone))
+    (given : w₂ ≡ giver_noted gv b.price n w₁)
   where
-    inside : b.zone < length ways
-    inside = omega (arith, looks.within, looked.zones)
-
-    pub bid_looked : Looked t o (n + 1) (set ways b.zone w)
+    pub bid_looked : Looked t o (n + 1) (set ways b.zone w₂)
     bid_looked =
+        let inside : b.zone < length ways = omega (arith, looks.within, looked.zones) in
+        let noted = both_noted _ _ (b.price + 1) (n + 1) (way_at ways b.zone) w₁ w₂ taken given in
         record {
-          zones = length-set ways b.zone w ∙ looked.zones;
+          zones = length-set ways b.zone w₂ ∙ looked.zones;
           takers =
               takers_more (market_given t) (outcome_given o) n b.zone b.price looks.price looks.zone _ _ _ _ looked.takers
-              (replaced (λ (x : Way). x.worth) ways b.zone w _ inside
-              (worth ∙ rw (looks.takes, takes_over, worth_is ways b.zone)))
-              (replaced (λ (x : Way). x.out) ways b.zone w _ inside
-              (out ∙ rw (looks.takes, takes_over, worth_is ways b.zone, out_is ways b.zone)));
+              (replaced (λ (x : Way). x.worth) ways b.zone w₂ _ inside
+              (noted.worth ∙ rw (looks.takes, worth_is ways b.zone)))
+              (replaced (λ (x : Way). x.out) ways b.zone w₂ _ inside
+              (noted.out ∙ rw (looks.takes, worth_is ways b.zone, out_is ways b.zone)));
           givers =
               givers_more (market_given t) (outcome_given o) n b.zone b.price looks.price looks.zone _ _ _ _ looked.givers
-              (replaced (λ (x : Way). x.ask) ways b.zone w _ inside
-              (ask ∙ rw (looks.gives, gives_over, ask_is ways b.zone)))
-              (replaced (λ (x : Way). x.giver) ways b.zone w _ inside
-              (giver ∙ rw (looks.gives, gives_over, ask_is ways b.zone, giver_is ways b.zone)));
+              (replaced (λ (x : Way). x.ask) ways b.zone w₂ _ inside
+              (noted.ask ∙ rw (noted.asked, looks.gives, ask_is ways b.zone)))
+              (replaced (λ (x : Way). x.giver) ways b.zone w₂ _ inside
+              (noted.giver ∙ rw (noted.asked, looks.gives, ask_is ways b.zone, giver_is ways b.zone)));
           near = λ v.
-              ap (λ xs. at xs v) (map-set_same (λ (x : Way). x.far) ways b.zone w no_way far) ∙ looked.near v;
+              ap (λ xs. at xs v) (map-set_same (λ (x : Way). x.far) ways b.zone w₂ no_way noted.far) ∙ looked.near v;
         }

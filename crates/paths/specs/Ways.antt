@@ -10,7 +10,9 @@
 --   way_nearer v w      w is worth as much as v, over one line less
 --   way_better v w      w, over one line more, is better than v
 --   over_line v w       v with what w is worth, over one line more
-use Rattle.std.specs.Prelude.{ℕ, suc, ◌+◌, Bool, ◌&&◌, ◌||◌, List, map, ◌==◌, nat_lt, slice_index_or}
+--   taker_noted ..      w with bid n noted as its zone's best taker, where it takes and is dearer than the best so far
+--   giver_noted ..      w with bid n noted as its zone's best giver, where it gives and is cheaper, or the first
+use Rattle.std.specs.Prelude.{ℕ, suc, ◌+◌, Bool, cond, ◌&&◌, ◌||◌, List, map, ◌==◌, nat_lt, slice_index_or}
 use Rattle.paths.specs.Plan.{Plan}
 use Rattle.paths.specs.declared.ways.Way.{Way}
 
@@ -50,3 +52,11 @@ way_better v w =
 
 abbrev pub over_line : Way → Way → Way
 over_line v w = record v { worth = w.worth; far = w.far + 1 }
+
+abbrev pub taker_noted : Bool → ℕ → ℕ → Way → Way
+taker_noted takes price n w =
+    cond (takes && nat_lt w.worth (price + 1)) (record w { worth = price + 1; out = n + 1 }) w
+
+abbrev pub giver_noted : Bool → ℕ → ℕ → Way → Way
+giver_noted gives price n w =
+    cond (gives && (w.ask == 0 || nat_lt (price + 1) w.ask)) (record w { ask = price + 1; giver = n + 1 }) w

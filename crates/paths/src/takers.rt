@@ -1,7 +1,8 @@
 // The best bid of each zone that can take power, and the best that can give it.
-ghost use Rattle.std.specs.Prelude.{◌≡◌, ◌+◌, ◌^◌, ◌<◌, if◌then◌else◌, ◌&&◌, ◌||◌, ◌==◌, nat_lt};
+ghost use Rattle.std.specs.Prelude.{◌≡◌, ◌+◌, ◌^◌, ◌<◌};
 ghost use Rattle.network.specs.Tables.{items};
 ghost use Rattle.paths.specs.Search.{Looks, Looked};
+ghost use Rattle.paths.specs.Ways.{taker_noted, giver_noted};
 
 use crate::given::Given;
 use crate::ways::Way;
@@ -10,29 +11,24 @@ use network::{row_count, row_in};
 
 // A zone's best taker yields to a dearer one, and its best giver to a cheaper one; so the first among equals stays.
 impl Way {
-    fn yields_to_taker(&self, price: u64) -> bool
-        ensures { result ≡ nat_lt self.now.worth (price + 1) }
+    fn note_taker(&mut self, takes: bool, price: u64, number: u64)
+        requires { (price < 2 ^ 32) × (number < 2 ^ 34) }
+        ensures { self.new ≡ taker_noted takes price number self.old }
     {
-        self.worth <= price
+        if takes && self.worth <= price {
+            self.worth = price + 1;
+            self.out = number + 1;
+        }
     }
 
-    fn yields_to_giver(&self, price: u64) -> bool
-        requires { price < 2 ^ 32 }
-        ensures { result ≡ (self.now.ask == 0 || nat_lt (price + 1) self.now.ask) }
+    fn note_giver(&mut self, gives: bool, price: u64, number: u64)
+        requires { (price < 2 ^ 32) × (number < 2 ^ 34) }
+        ensures { self.new ≡ giver_noted gives price number self.old }
     {
-        self.ask == 0 || price + 1 < self.ask
-    }
-}
-
-// A bid to which the best so far yields takes its place, where it is of the sort that is sought.
-fn note(label: &mut u64, numbered: &mut u64, is_sought: bool, yields: bool, bid: Bid, number: u64)
-    requires { (bid.price < 2 ^ 32) × (number < 2 ^ 34) }
-    ensures label { label.new ≡ (if is_sought && yields then bid.price + 1 else label.old) }
-    ensures numbered { numbered.new ≡ (if is_sought && yields then number + 1 else numbered.old) }
-{
-    if is_sought && yields {
-        *label = bid.price + 1;
-        *numbered = number + 1;
+        if gives && (self.ask == 0 || price + 1 < self.ask) {
+            self.ask = price + 1;
+            self.giver = number + 1;
+        }
     }
 }
 
@@ -43,10 +39,8 @@ fn look(given: Given, number: u64, bid: Bid, takes: bool, gives: bool, ways: &mu
     ensures { Looked given.entry.tables given.entry.amounts (number + 1) ways.new }
 {
     let way = &mut ways[bid.zone as usize];
-    let dearer = way.yields_to_taker(bid.price);
-    let cheaper = way.yields_to_giver(bid.price);
-    note(&mut way.worth, &mut way.out, takes, dearer, bid, number);
-    note(&mut way.ask, &mut way.giver, gives, cheaper, bid, number);
+    way.note_taker(takes, bid.price, number);
+    way.note_giver(gives, bid.price, number);
 }
 
 // Buys take what they have room for, and give what they have. The number of a bid is what is noted of it, so bids are counted.
