@@ -4,8 +4,8 @@
 --   Spaced t ..            there is an amount for each bid and a flow for each line
 --   Sound t o              both
 --   Looks t o n b ..       what is seen of the bid with number n
---   Noted m ok beats n ..  two lists have, for each zone, what the best among the first n bids that are ok there is worth, and its
---                          number
+--   Noted m ok beats n ..  two lists have, for each zone, what the best among the first n bids that are ok there is worth, and
+--                          its number
 --   Takers, Givers         the same of the best taker; of the best giver
 --   Looked t o n ways      ways have both of the first n bids, and none leads over a line yet
 --   rises worth far v w    the way over a line from v to w is better than the one that v has
