@@ -32,7 +32,7 @@ impl Way {
     }
 }
 
-// The bid with a number among all, in its zone.
+// The bid with a number among all, in its zone. What is seen of a bid goes one call deep, so it is no type of its own.
 fn look(given: Given, number: u64, bid: Bid, takes: bool, gives: bool, ways: &mut [Way])
     requires looks { Looks given.tables given.amounts number bid takes gives }
     requires looked { Looked given.tables given.amounts number ways.old }
