@@ -6,7 +6,7 @@ use Rattle.hour.specs.Market.{Market, Outcome, Proper}
 use Rattle.network.specs.Ways.{Fits}
 use Rattle.paths.proofs.WaysOut.{pays_off}
 use Rattle.paths.specs.Plan.{Plan, Planned, pays, closed_way}
-use Rattle.circulation.specs.Given.{Ready}
+use Rattle.circulation.specs.Pushable.{Ready}
 use Rattle.circulation.specs.Sweep.{bottleneck, tally, asked, swept}
 use Rattle.circulation.proofs.Bottleneck.{bottleneck_fits, free_among}
 use Rattle.circulation.proofs.Sweeping.{swept_more}

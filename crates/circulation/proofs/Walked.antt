@@ -17,7 +17,7 @@ use Rattle.paths.specs.Bids.{item_no, giving}
 use Rattle.paths.specs.Plan.{Plan, out_step, way_out, closed_way}
 use Rattle.network.specs.Given.{market_given}
 use Rattle.paths.specs.Search.{Spaced}
-use Rattle.circulation.specs.Given.{Placed}
+use Rattle.circulation.specs.Pushable.{Placed}
 
 pub placed :
     (t : Tables) (bought sold flow : List ℕ) → Spaced t bought sold flow → (i : Item) → Among (market_given t) i →

@@ -1,4 +1,4 @@
 pub mod Sweep
 pub mod Run
 pub mod Promises
-pub mod Given
+pub mod Pushable

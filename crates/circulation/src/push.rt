@@ -8,7 +8,7 @@ ghost use Rattle.paths.specs.Plan.{closed_way};
 ghost use Rattle.network.specs.Given.{market_given};
 ghost use Rattle.paths.specs.Search.{Bounded, Spaced};
 ghost use Rattle.paths.specs.Ways.{plan_of};
-ghost use Rattle.circulation.specs.Given.{Placed};
+ghost use Rattle.circulation.specs.Pushable.{Placed};
 ghost use Rattle.std.specs.List.{AllByRecursion};
 
 use crate::steps::{end_of, step_in, step_out};

@@ -5,7 +5,7 @@ ghost use Rattle.paths.specs.Plan.{Planned, pays, closed_way};
 ghost use Rattle.network.specs.Given.{market_given, outcome_given};
 ghost use Rattle.paths.specs.Search.{Bounded, Spaced};
 ghost use Rattle.paths.specs.Ways.{plan_of};
-ghost use Rattle.circulation.specs.Given.{Ready};
+ghost use Rattle.circulation.specs.Pushable.{Ready};
 ghost use Rattle.circulation.specs.Sweep.{bottleneck, tally, asked, swept};
 
 use crate::push::push;

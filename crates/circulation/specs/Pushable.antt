@@ -1,7 +1,7 @@
 -- What a push asks of lists of amounts and of a closed way. Assumes nothing: these are definitions.
 --
---   Placed .. i       item i has its place in the lists of amounts
 --   Ready m t v       the closed way through zone v goes along items of the market, and leaves no node twice
+--   Placed .. i       item i has its place in the lists of amounts
 use Rattle.std.specs.Prelude.{ℕ, ◌<◌, List, length}
 use Rattle.std.specs.List.{AllByRecursion}
 use Rattle.hour.specs.Market.{Market}
@@ -15,7 +15,6 @@ pub record Ready (m : Market) (t : Plan) (v : ℕ) : Type 0 where
   pub among : AllByRecursion (λ s. Among m (item s)) (closed_way m t v)
   pub once : Once m (closed_way m t v)
 
--- the item has its place in the lists of amounts
 abbrev pub Placed : List ℕ → List ℕ → List ℕ → Item → Type 0
 Placed bought sold flow (Buy k) = k < length bought
 Placed bought sold flow (Sell k) = k < length sold
