@@ -1,14 +1,21 @@
 -- What a run promises. Assumes nothing.
 --
---   value m o          what the outcome o is worth, and what all sells together cost: never below 0, and a push raises it
---   top m              the value that no outcome can pass
---   PushByPush         a run is so many pushes, each along a closed way that pays; each leaves an outcome that can be carried out
---   RunSettles         at the end of a run the labels are the lowest prices, and they settle the outcome
---   OneRun             a run from an outcome has one count, one end and one set of tables
---   RunEnds            from every outcome that can be carried out there is a run, of no more pushes than the value can rise
---   LabelsFall         labels never rise from one search to the next
---   Always             every proper market has an outcome that can be carried out and prices that settle it, the lowest that
---                      settle anything
+--   all_gain, all_cost  what all buys gain if they carry all that they can; what all sells cost then
+--   value m o           what the outcome o is worth, and what all sells together cost: never below 0, and a push raises it
+--   top m               the value that no outcome can pass
+--   StepsSound m o p n  n pushes lead from the outcome o to p; p can be carried out, and its value has risen by n or more
+--   PushByPush          a run is so many pushes, each along a closed way that pays; each leaves an outcome that can be carried
+--                       out
+--   RunSettles          at the end of a run the labels are the lowest prices, and they settle the outcome
+--   SameRun             two counts, ends and sets of tables are the same
+--   OneRun              a run from an outcome has one count, one end and one set of tables
+--   Ended m o           a run from the outcome o, with its count, end and tables: of no more pushes than the value can rise
+--   RunEnds             from every outcome that can be carried out there is a run, of no more pushes than the value can rise
+--   LabelsFall          labels never rise from one search to the next
+--   Cleared m           an outcome that can be carried out, and prices that settle it, one for each zone, the lowest that
+--                       settle anything
+--   Always              every proper market has an outcome that can be carried out and prices that settle it, the lowest that
+--                       settle anything
 use Rattle.std.specs.Prelude.{◌≡◌, ℕ, ◌+◌, ◌-◌, ◌*◌, ◌<◌, ◌≤◌, List, length}
 use Rattle.hour.specs.Market.{Market, Outcome, Proper, Feasible, Settled, at}
 use Rattle.network.specs.Network.{capacity, cost, gain, gained, spent, sum}

@@ -1,10 +1,11 @@
 -- One sweep: each zone that pays pushes once along its way. Assumes nothing: these are definitions.
 --
---   bottleneck m o ss   how much fits along all steps of the way ss
---   Tally               an outcome, and how many pushes led to it
---   asked m t v y       zone v is asked: if it pays by the tables t, and something still fits along its closed way, that much is
---                       pushed along it, and counted
---   swept m t n o       the zones 0, 1, .., n - 1 were asked, one after the other, beginning with the outcome o
+--   bottleneck m o ss     how much fits along all steps of the way ss
+--   Tally, tally o n      an outcome, and how many pushes led to it
+--   pushed_full m ss y    as much as fits was pushed along the way ss, and counted
+--   asked m t v y         zone v is asked: if it pays by the tables t, and something still fits along its closed way, that much
+--                         is pushed along it, and counted
+--   swept m t n o         the zones 0, 1, .., n - 1 were asked, one after the other, beginning with the outcome o
 use Rattle.std.specs.Prelude.{ℕ, zero, suc, ◌+◌, min, cond, ◌&&◌, List, [], ◌∷◌, nat_lt}
 use Rattle.hour.specs.Market.{Market, Outcome}
 use Rattle.network.specs.Ways.{room, pushed}
@@ -23,7 +24,6 @@ pub record Tally : Type 0 where
 abbrev pub tally : Outcome → ℕ → Tally
 tally o n = record { outcome = o; pushes = n }
 
--- as much as fits, along a way
 abbrev pub pushed_full : Market → List Step → Tally → Tally
 pushed_full m ss y =
     record { outcome = pushed y.outcome ss (bottleneck m y.outcome ss); pushes = y.pushes + 1 }
