@@ -1,10 +1,10 @@
 -- How much fits along all steps of a way. Assumes nothing.
-use Rattle.std.proofs.Common.{ℕ, ◌<◌, ◌≤◌, List, [], ◌∷◌, arith}
+use Rattle.std.proofs.Common.{◌≡◌, ℕ, ◌<◌, ◌≤◌, min, List, [], ◌∷◌, sym, refl, ap, ◌∙◌, arith}
 use Rattle.std.specs.List.{AllByRecursion}
 use Rattle.std.proofs.ByRecursion.{All-weaker}
 use Rattle.hour.specs.Market.{Market, Outcome}
 use Rattle.network.specs.Network.{Among}
-use Rattle.network.specs.Ways.{item, Free, Fits}
+use Rattle.network.specs.Ways.{item, room, Free, Fits}
 use Rattle.network.specs.declared.arcs.Step.{Step}
 use Rattle.circulation.specs.Sweep.{bottleneck}
 
@@ -30,3 +30,37 @@ bottleneck_some m o s (r ∷ rs) free = omega (arith, free.0.room, bottleneck_so
 pub free_among :
     (m : Market) (o : Outcome) (ss : List Step) → AllByRecursion (Free m o) ss → AllByRecursion (λ s. Among m (item s)) ss
 free_among m o = All-weaker (Free m o) (λ s. Among m (item s)) (λ s free. free.among)
+
+-- so much fits along a step that has been found and all that are left
+abbrev narrowed : Market → Outcome → ℕ → List Step → ℕ
+narrowed m o least [] = least
+narrowed m o least (s ∷ left) = narrowed m o (min least (room m o s)) left
+
+-- the way ss is walked: so much fits along the steps so far, and with those that are left it comes to what fits along all
+pub record Narrows (m : Market) (o : Outcome) (ss : List Step) (least : ℕ) (left : List Step) : Type 0 where
+  pub all : narrowed m o least left ≡ bottleneck m o ss
+
+module _ (m : Market) (o : Outcome) where
+  narrowed_min :
+      (least : ℕ) (s : Step) (left : List Step) → min least (bottleneck m o (s ∷ left)) ≡ narrowed m o least (s ∷ left)
+  narrowed_min least s [] = refl
+  narrowed_min least s (r ∷ left) = omega (arith, narrowed_min (min least (room m o s)) r left)
+
+  narrowed_first : (s : Step) (left : List Step) → narrowed m o (room m o s) left ≡ bottleneck m o (s ∷ left)
+  narrowed_first s [] = refl
+  narrowed_first s (r ∷ left) = sym (narrowed_min (room m o s) r left)
+
+  module _ (ss : List Step) where
+    pub narrows_start :
+        (s : Step) (left : List Step) (least : ℕ) → ss ≡ s ∷ left → least ≡ room m o s → Narrows m o ss least left
+    narrows_start s left least is room_is =
+        record { all = rw (is, room_is) (narrowed_first s left) }
+
+    pub narrows_more :
+        (least : ℕ) (left : List Step) (s : Step) (left' : List Step) (r least' : ℕ) → Narrows m o ss least left →
+        left ≡ s ∷ left' → r ≡ room m o s → least' ≡ min least r → Narrows m o ss least' left'
+    narrows_more least left s left' r least' narrows is room_is least_is =
+        record { all = ap (λ x. narrowed m o x left') (least_is ∙ ap (min least) room_is) ∙ sym (ap (narrowed m o least) is) ∙ narrows.all }
+
+    pub narrows_end : (least : ℕ) (left : List Step) → Narrows m o ss least left → left ≡ [] → least ≡ bottleneck m o ss
+    narrows_end least left narrows is = sym (ap (narrowed m o least) is) ∙ narrows.all

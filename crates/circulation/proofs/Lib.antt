@@ -9,7 +9,6 @@ pub mod Runs
 pub mod Always
 pub mod Calm
 pub mod Fall
-pub mod OnTables
 pub mod Walked
 pub mod Asked
 pub mod Turns

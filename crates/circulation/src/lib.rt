@@ -3,8 +3,10 @@
 
 pub mod promises;
 mod push;
+mod routes;
 mod run;
 mod steps;
 mod sweep;
+mod walk;
 
 pub use run::circulate;

@@ -1,19 +1,16 @@
 // A push along a closed way: so much more along each of its steps.
-ghost use Rattle.std.specs.Prelude.{◌≡◌, ◌+◌, ◌-◌, ◌^◌, ◌<◌, ◌≤◌, length};
-ghost use Rattle.hour.specs.Market.{at};
-ghost use Rattle.network.specs.Network.{carried};
-ghost use Rattle.network.specs.Tables.{outcome_in};
-ghost use Rattle.network.specs.Ways.{Fits, Once, carry, moved, pushed};
-ghost use Rattle.paths.specs.Plan.{closed_way};
-ghost use Rattle.network.specs.Given.{market_given};
-ghost use Rattle.paths.specs.Search.{Bounded, Spaced};
-ghost use Rattle.paths.specs.Ways.{plan_of};
-ghost use Rattle.circulation.specs.Pushable.{Placed};
+ghost use Rattle.std.specs.Prelude.{◌≡◌, ◌^◌, ◌<◌};
 ghost use Rattle.std.specs.List.{AllByRecursion};
+ghost use Rattle.network.specs.Given.{market_given};
+ghost use Rattle.network.specs.Tables.{outcome_in};
+ghost use Rattle.network.specs.Ways.{Fits, Once, item, carry, moved, pushed};
+ghost use Rattle.paths.specs.Plan.{closed_way};
+ghost use Rattle.paths.specs.Search.{Spaced};
+ghost use Rattle.circulation.specs.Pushable.{Placed, Movable};
+ghost use Rattle.circulation.specs.Routes.{routed};
 
-use crate::steps::{end_of, step_in, step_out};
-use network::{Amounts, Item, Step, Tables};
-use paths::{Way, way_at};
+use crate::routes::Routes;
+use network::{Amounts, Item, Step};
 
 // An item carries so much. The lists of amounts are three parameters, here and above: of a struct that lends them each function
 // would have to say besides that its fields still lend the same. So what is required of tables and lists together stands in each.
@@ -30,11 +27,9 @@ fn carry(item: Item, amount: u64, bought: &mut [u64], sold: &mut [u64], flow: &m
 }
 
 // So much more along one step: forward the item carries more, backward less.
-fn move_along(t: Tables, step: Step, d: u64, bought: &mut [u64], sold: &mut [u64], flow: &mut [u64])
-    requires tables { Bounded t }
-    requires spaced { Spaced t bought.old sold.old flow.old }
-    requires some { 0 < d }
-    requires fits { Fits (market_given t) (outcome_in bought.old sold.old flow.old) d step }
+fn move_along(step: Step, d: u64, bought: &mut [u64], sold: &mut [u64], flow: &mut [u64])
+    requires placed { Placed bought.old sold.old flow.old (item step) }
+    requires movable { Movable (outcome_in bought.old sold.old flow.old) d step }
     ensures { outcome_in bought.new sold.new flow.new ≡ moved (outcome_in bought.old sold.old flow.old) step d }
 {
     let o = Amounts {
@@ -48,31 +43,18 @@ fn move_along(t: Tables, step: Step, d: u64, bought: &mut [u64], sold: &mut [u64
     }
 }
 
-// So much more along each step of zone v's closed way: from the hub by the zone's giver, over its lines, and back to the hub.
-pub fn push(
-    t: Tables,
-    ways: &[Way],
-    v: usize,
-    d: u64,
-    bought: &mut [u64],
-    sold: &mut [u64],
-    flow: &mut [u64],
-)
-    requires tables { Bounded t }
-    requires spaced { Spaced t bought.old sold.old flow.old }
-    requires some { 0 < d }
-    requires once { Once (market_given t) (closed_way (market_given t) (plan_of ways.now) v) }
-    requires fits { AllByRecursion (Fits (market_given t) (outcome_in bought.old sold.old flow.old) d) (closed_way (market_given t) (plan_of ways.now) v) }
-    ensures { outcome_in bought.new sold.new flow.new ≡ pushed (outcome_in bought.old sold.old flow.old) (closed_way (market_given t.entry) (plan_of ways.now) v) d }
-{
-    move_along(t, step_in(t, ways, v), d, bought, sold, flow);
-    // The zone moves with each step: the way is walked, as long as it says, and not gone over as a list.
-    let mut zone = v;
-    let lines = way_at(ways, v).far;
-    for k in 0..lines {
-        let step = step_out(t, ways, zone);
-        move_along(t, step, d, bought, sold, flow);
-        zone = end_of(t, step) as usize;
+impl Routes<'_> {
+    // So much more along each step of a zone's closed way: from the hub by the zone's giver, over its lines, and back to the hub.
+    pub fn push(self, zone: usize, d: u64, bought: &mut [u64], sold: &mut [u64], flow: &mut [u64])
+        requires spaced { Spaced self.tables bought.old sold.old flow.old }
+        requires some { 0 < d }
+        requires once { Once (market_given self.tables) (routed closed_way self zone) }
+        requires fits { AllByRecursion (Fits (market_given self.tables) (outcome_in bought.old sold.old flow.old) d) (routed closed_way self zone) }
+        ensures { outcome_in bought.new sold.new flow.new ≡ pushed (outcome_in bought.old sold.old flow.old) (routed closed_way self.entry zone) d }
+    {
+        move_along(self.step_in(zone), d, bought, sold, flow);
+        for step in self.way_out(zone) {
+            move_along(step, d, bought, sold, flow);
+        }
     }
-    move_along(t, step_out(t, ways, zone), d, bought, sold, flow);
 }

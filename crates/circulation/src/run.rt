@@ -10,7 +10,7 @@ ghost use Rattle.paths.specs.Ways.{plan_of};
 ghost use Rattle.circulation.specs.Promises.{StepsSound, top};
 ghost use Rattle.circulation.specs.Run.{Run};
 
-use crate::sweep::sweep;
+use crate::routes::Routes;
 use network::{Amounts, Tables};
 use paths::{Way, find_ways};
 
@@ -45,7 +45,11 @@ pub fn circulate(
     )
     .is_some()
     {
-        pushes += sweep(t, &*ways, bought, sold, flow);
+        let routes = Routes {
+            tables: t,
+            ways: &*ways,
+        };
+        pushes += routes.sweep(bought, sold, flow);
     }
     pushes
 }
