@@ -1,5 +1,5 @@
 -- How much fits along all steps of a way. Assumes nothing.
-use Rattle.std.proofs.Common.{◌≡◌, ℕ, ◌<◌, ◌≤◌, min, List, [], ◌∷◌, sym, refl, ap, ◌∙◌, arith}
+use Rattle.std.proofs.Common.{◌≡◌, ℕ, ◌<◌, ◌≤◌, min, List, [], ◌∷◌, sym, refl, arith}
 use Rattle.std.specs.List.{AllByRecursion}
 use Rattle.std.proofs.ByRecursion.{All-weaker}
 use Rattle.hour.specs.Market.{Market, Outcome}
@@ -53,14 +53,4 @@ module _ (m : Market) (o : Outcome) where
   module _ (ss : List Step) where
     pub narrows_start :
         (s : Step) (left : List Step) (least : ℕ) → ss ≡ s ∷ left → least ≡ room m o s → Narrows m o ss least left
-    narrows_start s left least is room_is =
-        record { all = rw (is, room_is) (narrowed_first s left) }
-
-    pub narrows_more :
-        (least : ℕ) (left : List Step) (s : Step) (left' : List Step) (r least' : ℕ) → Narrows m o ss least left →
-        left ≡ s ∷ left' → r ≡ room m o s → least' ≡ min least r → Narrows m o ss least' left'
-    narrows_more least left s left' r least' narrows is room_is least_is =
-        record { all = ap (λ x. narrowed m o x left') (least_is ∙ ap (min least) room_is) ∙ sym (ap (narrowed m o least) is) ∙ narrows.all }
-
-    pub narrows_end : (least : ℕ) (left : List Step) → Narrows m o ss least left → left ≡ [] → least ≡ bottleneck m o ss
-    narrows_end least left narrows is = sym (ap (narrowed m o least) is) ∙ narrows.all
+    narrows_start s left least is room_is = record { all = rw (is, room_is) (narrowed_first s left) }

@@ -1,5 +1,5 @@
 -- A push in place, step by step along a closed way. Assumes nothing.
-use Rattle.std.proofs.Common.{◌≡◌, ℕ, ◌<◌, List, [], ◌∷◌, sym, refl, subst, arith}
+use Rattle.std.proofs.Common.{◌≡◌, ℕ, ◌<◌, List, ◌∷◌, sym, refl, subst, arith}
 use Rattle.std.specs.List.{AllByRecursion}
 use Rattle.hour.specs.Market.{Market, Outcome}
 use Rattle.network.proofs.Rows.{length_bids_in, length_lines_in}
@@ -28,12 +28,6 @@ pub movable :
 movable t o d bounded some (Forward i) fits = omega (arith, fits.fits, bounded.capacities i fits.among)
 movable t o d bounded some (Backward i) fits = fits.fits
 
--- it fits along the first of several steps
-pub fits_first :
-    (m : Market) (o : Outcome) (d : ℕ) (s first : Step) (ss : List Step) → AllByRecursion (Fits m o d) (first ∷ ss) →
-    s ≡ first → Fits m o d s
-fits_first m o d s first ss fits is = subst (Fits m o d) (sym is) fits.0
-
 -- so far q is reached along the steps ss: what is left makes of it what all steps make of o, and fits
 pub record Walks (m : Market) (d : ℕ) (o : Outcome) (ss : List Step) (q : Outcome) (left : List Step) : Type 0 where
   pub rest : pushed q left d ≡ pushed o ss d
@@ -61,5 +55,5 @@ module _ (m : Market) (d : ℕ) (o : Outcome) (ss : List Step) where
         once = here.once.1;
       })
 
-  pub walks_end : (q : Outcome) (left : List Step) → Walks m d o ss q left → left ≡ [] → q ≡ pushed o ss d
-  walks_end q left walks is = (subst (Walks m d o ss q) is walks).rest
+-- what a step of the walk takes
+pub ruleset walking = (placed, movable, walks_fits, walks_more)

@@ -45,6 +45,7 @@ fn move_along(step: Step, d: u64, bought: &mut [u64], sold: &mut [u64], flow: &m
 
 impl Routes<'_> {
     // So much more along each step of a zone's closed way: from the hub by the zone's giver, over its lines, and back to the hub.
+    #[tactic(auto, using(crate::proofs::Walked::walking))]
     pub fn push(self, zone: usize, d: u64, bought: &mut [u64], sold: &mut [u64], flow: &mut [u64])
         requires spaced { Spaced self.tables bought.old sold.old flow.old }
         requires some { 0 < d }
