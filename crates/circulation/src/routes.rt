@@ -1,5 +1,5 @@
 // The ways that a search found, on the tables of the market.
-ghost use Rattle.std.proofs.Props.{props};
+ghost use Rattle.std.specs.Prelude.{◌≡◌, length};
 ghost use Rattle.paths.specs.Search.{Bounded};
 
 use hour::Line;
@@ -11,11 +11,12 @@ use paths::{Way, way_at};
 pub struct Routes<'a> {
     pub tables: Tables<'a>,
     pub ways: &'a [Way],
-    ghost bounded: { Bounded tables } by { Prim.hlevel props },
+    ghost bounded: { Bounded tables },
+    ghost one_each: { length ways.now ≡ tables.zones },
 }
 
 impl Routes<'_> {
-    ghost use Rattle.std.specs.Prelude.{◌≡◌, ◌-◌};
+    ghost use Rattle.std.specs.Prelude.{◌-◌};
     ghost use Rattle.hour.specs.Market.{at};
     ghost use Rattle.network.specs.Given.{market_given};
     ghost use Rattle.paths.specs.Bids.{item_no, giving};
@@ -62,7 +63,7 @@ impl Routes<'_> {
 
     // Over how many lines a zone's way leads.
     #[tactic(auto, using(paths::proofs::Zones::far_is))]
-    pub fn lines(self, zone: usize) -> u64
+    pub fn line_count(self, zone: usize) -> u64
         ensures { result ≡ at (fars self.entry.ways.now) zone }
     {
         way_at(self.ways, zone).far

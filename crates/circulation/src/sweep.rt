@@ -55,8 +55,8 @@ impl Routes<'_> {
         ensures { routed swept self.entry self.entry.tables.zones (outcome_in bought.old sold.old flow.old) ≡ tally (outcome_in bought.new sold.new flow.new) result }
     {
         let mut pushes = 0;
-        for zone in 0..self.tables.zones {
-            pushes += self.ask_zone(zone as usize, bought, sold, flow);
+        for zone in 0..self.ways.len() {
+            pushes += self.ask_zone(zone, bought, sold, flow);
         }
         pushes
     }

@@ -42,7 +42,7 @@ impl<'a> Routes<'a> {
         Walk {
             routes: self,
             node: zone,
-            lines: Some(self.lines(zone)),
+            lines: Some(self.line_count(zone)),
         }
     }
 }

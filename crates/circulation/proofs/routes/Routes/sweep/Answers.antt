@@ -1,6 +1,7 @@
+use Rattle.std.proofs.Common.{arith}
 use Rattle.circulation.proofs.Asked.{ready_pays}
 use Rattle.circulation.proofs.routes.Routes.sweep.Goals as goal
 
 pub ask_zone-pushes-requires-clause-ready : goal.ask_zone-pushes-requires-clause-ready
-ask_zone-pushes-requires-clause-ready c paid =
-    ready_pays _ _ _ c.args.self.bounded.proper c.requires.planned _ c.loop-zone-test.true paid
+ask_zone-pushes-requires-clause-ready c =
+    ready_pays _ _ _ c.args.self.bounded.proper c.requires.planned c.loop-zone.zone (omega arith)
