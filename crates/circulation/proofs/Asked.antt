@@ -1,5 +1,5 @@
--- A zone that is asked, on tables: when its closed way can be walked, and what one zone more leaves. Assumes nothing.
-use Rattle.std.proofs.Common.{◌≡◌, ℕ, ◌+◌, ◌<◌, true, ap, ◌∙◌}
+-- A zone that is asked, on tables: when its closed way can be walked. Assumes nothing.
+use Rattle.std.proofs.Common.{◌≡◌, ℕ, ◌<◌, true}
 use mathlib.Core.Path.{subst⁻¹}
 use Rattle.std.specs.List.{AllByRecursion}
 use Rattle.hour.specs.Market.{Market, Outcome, Proper}
@@ -7,9 +7,8 @@ use Rattle.network.specs.Ways.{Fits}
 use Rattle.paths.proofs.WaysOut.{pays_off}
 use Rattle.paths.specs.Plan.{Plan, Planned, pays, closed_way}
 use Rattle.circulation.specs.Pushable.{Ready}
-use Rattle.circulation.specs.Sweep.{bottleneck, tally, asked, swept}
+use Rattle.circulation.specs.Sweep.{bottleneck}
 use Rattle.circulation.proofs.Bottleneck.{bottleneck_fits, free_among}
-use Rattle.circulation.proofs.Sweeping.{swept_more}
 
 pub ready_pays :
     (m : Market) (o : Outcome) (t : Plan) → Proper m → Planned m o t → (v : ℕ) → v < m.zones → pays t v ≡ true →
@@ -23,8 +22,3 @@ pub ready_fits :
     AllByRecursion (Fits m o d) (closed_way m t v)
 ready_fits m o t v d ready is =
     subst⁻¹ (λ x. AllByRecursion (Fits m o x) (closed_way m t v)) is (bottleneck_fits m o (closed_way m t v) ready.among)
-
-pub swept_asked :
-    (m : Market) (t : Plan) (v : ℕ) (o p q : Outcome) (n r : ℕ) → swept m t v o ≡ tally p n →
-    ((k : ℕ) → asked m t v (tally p k) ≡ tally q (k + r)) → swept m t (v + 1) o ≡ tally q (n + r)
-swept_asked m t v o p q n r before here = swept_more m t v o ∙ (ap (asked m t v) before ∙ here n)

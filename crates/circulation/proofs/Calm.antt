@@ -71,7 +71,8 @@ calm_free m o t proper planned s free apart =
 module _ (m : Market) (t : Plan) where
   -- Idea: add up the steps; between the ends the labels cancel.
   pub calm_way :
-      (a : ℕ) (ss : List Step) (b : ℕ) → Links m a ss b → AllByRecursion (λ s. start m s ≢ hub m) ss → AllByRecursion (Calm m t) ss →
+      (a : ℕ) (ss : List Step) (b : ℕ) → Links m a ss b → AllByRecursion (λ s. start m s ≢ hub m) ss →
+      AllByRecursion (Calm m t) ss →
       label m t b + way_gain m ss ≤ label m t a + way_cost m ss
   calm_way a [] b links apart calm = omega (arith, ap (label m t) links)
   calm_way a (s ∷ ss) b links apart calm =
@@ -84,7 +85,8 @@ module _ (m : Market) (t : Plan) where
 
   -- Idea: where the whole way is worth the label at its beginning, no step of it may lose any.
   pub held_way :
-      (a : ℕ) (ss : List Step) (b : ℕ) → Links m a ss b → AllByRecursion (λ s. start m s ≢ hub m) ss → AllByRecursion (Calm m t) ss →
+      (a : ℕ) (ss : List Step) (b : ℕ) → Links m a ss b → AllByRecursion (λ s. start m s ≢ hub m) ss →
+      AllByRecursion (Calm m t) ss →
       label m t a + way_cost m ss ≤ label m t b + way_gain m ss → AllByRecursion (Held m t) ss
   held_way a [] b links apart calm worth = tt
   held_way a (s ∷ ss) b links apart calm worth =

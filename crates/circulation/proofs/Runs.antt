@@ -18,11 +18,6 @@ use Rattle.circulation.proofs.Swept.{swept_sound, some_pushes}
 abbrev pub RunsOn : Market → Outcome → ℕ → Outcome → Type 0
 RunsOn m o c q = (n : ℕ) (p : Outcome) (t : Plan) → Run m q n p t → Run m o (c + n) p t
 
-pub run_none : (m : Market) (o : Outcome) → RunsOn m o 0 o
-run_none m o n p t run =
-    let count : n ≡ 0 + n = omega arith in
-    subst (λ j. Run m o j p t) count run
-
 pub run_more :
     (m : Market) (o q : Outcome) (s : Plan) (c : ℕ) → Planned m q s → is_some (first_paying m s) ≡ true →
     RunsOn m o c q → RunsOn m o (c + (swept m s m.zones q).pushes) (swept m s m.zones q).outcome

@@ -1,6 +1,6 @@
 -- A sweep zone by zone: what asking one zone does. Assumes nothing.
-use Rattle.std.proofs.Common.{◌≡◌, ℕ, ◌+◌, ◌<◌, true, false, ◌&&◌, ltb, ap, add-one, arith}
-use Rattle.std.proofs.lemmas.Bool.{and_from, and_left, and_right, and_parts, cond-true, cond-false, cond_both, lt-ltb, le-ltb, ltb-true}
+use Rattle.std.proofs.Common.{◌≡◌, ℕ, ◌+◌, ◌<◌, true, false, ◌&&◌, ltb, ap, add-one}
+use Rattle.std.proofs.lemmas.Bool.{and_from, and_left, and_parts, cond-true, cond-false, cond_both, lt-ltb, ltb-true}
 use Rattle.hour.specs.Market.{Market, Outcome}
 use Rattle.paths.specs.Plan.{Plan, pays, closed_way}
 use Rattle.circulation.specs.Sweep.{bottleneck, Tally, pushed_full, asked, swept}
@@ -18,11 +18,6 @@ module _ (m : Market) (t : Plan) (v : ℕ) (y : Tally) where
   pub asked_unpaid : pays t v ≡ false → asked m t v y ≡ y
   asked_unpaid unpaid =
       cond-false _ (pushed_full m (closed_way m t v) y) y (and_left (pays t v) (ltb 0 fitting) unpaid)
-
-  pub asked_full : fitting ≡ 0 → asked m t v y ≡ y
-  asked_full full =
-      cond-false _ (pushed_full m (closed_way m t v) y) y
-      (and_right (pays t v) (ltb 0 fitting) (le-ltb 0 fitting (omega arith)))
 
   pub asked_pushes : pays t v ≡ true → 0 < fitting → asked m t v y ≡ pushed_full m (closed_way m t v) y
   asked_pushes paid some =

@@ -2,7 +2,7 @@
 --
 --   Ready m t v       the closed way through zone v goes along items of the market, and leaves no node twice
 --   Placed .. i       item i has its place in the lists of amounts
---   Movable o d s     so much more can go along step s: forward its item then carries a number of 64 bits, backward it has as much
+--   Movable o d s     d more can go along step s: forward its item then carries a number of 64 bits, backward it has as much
 use Rattle.std.specs.Prelude.{ℕ, ◌+◌, ◌^◌, ◌<◌, ◌≤◌, List, length}
 use Rattle.std.specs.List.{AllByRecursion}
 use Rattle.hour.specs.Market.{Market, Outcome}
