@@ -6,8 +6,8 @@
 --   giving i          the step from the hub to the bid's zone: a sell has more, a buy is taken back
 --   zone_of m i       the zone of the bid i; of a line, the zone where it begins
 --   price_of m i      the price of the bid i; of a line 0
---   takes m o z k     bid k lies in zone z and can take more power; gives, that it can give more
---   dearer m j k      bid j has a higher price than bid k; cheaper, a lower one
+--   takes, gives      bid k lies in zone z and can take more power; it lies there and can give more
+--   dearer, cheaper   bid j has a higher price than bid k; a lower one
 --   taker m o z       the dearest bid of zone z that can take, the first among equals
 --   giver m o z       the cheapest bid of zone z that can give, the first among equals
 --   worth_at m b      what the bid b is worth as a table has it: 0 for no bid, else one more than its price
