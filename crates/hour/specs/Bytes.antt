@@ -1,11 +1,20 @@
 -- The bytes of an hour: what they say, when they are refused, and how an hour is written. Assumes nothing: these are definitions.
 --
 --   byte, two, three   the number in one, two or three bytes from a place on, low byte first
+--   bid_at, line_at    the bid, the line that the bytes say from a place on
+--   bids_said bs b n   n bids, as the bytes have them behind b others
+--   lines_said bs b n  n lines, as the bytes have them behind b bids
 --   market_of bs       the market that the bytes say
 --   size_said bs       how many bytes the counts ask for
+--   in_first n bs f    f, what is wrong with the first n bytes, looked at only where they have come
 --   head_fault bs      the first fault of the head and the length: zones, counts, length
+--   head_of bs         the counts that the head says; head_read bs these, or the head's refusal
+--   bids_read, lines_read    the first rule that one of so many bids or lines breaks, read where they stand
+--   items_read bs h    the same of all that the counts h ask for: buys, sells, lines
 --   refusal_of bs      the first rule that the bytes break, or nothing
 --   refusal_with bs l  the same where slices are lent with the bytes and l is what is wrong with these
+--   low_bytes n v      the lowest n bytes of v, low byte first
+--   bid_bytes, line_bytes, head_bytes    the bytes of a bid, of a line, of a market's head
 --   bytes_of m         the bytes of the market m
 --
 -- The head has the number of zones (one byte) and the counts of buys, sells and lines (two each); of a head that is cut
@@ -38,14 +47,12 @@ bid_at bs i = record { zone = byte bs i; price = three bs (i + 1); amount = thre
 abbrev pub line_at : List ℕ → ℕ → Line
 line_at bs i = record { from = byte bs i; to = byte bs (i + 1); capacity = three bs (i + 2) }
 
--- `count` bids, as the bytes have them behind `before` others; and so many lines, behind so many bids
 abbrev pub bids_said : List ℕ → ℕ → ℕ → List Bid
 bids_said bs before count = listed count (λ k. bid_at bs (bid_place (before + k)))
 
 abbrev pub lines_said : List ℕ → ℕ → ℕ → List Line
 lines_said bs bids count = listed count (λ k. line_at bs (line_place bids k))
 
--- the market that the bytes say
 abbrev pub market_of : List ℕ → Market
 market_of bs =
     record {
@@ -58,7 +65,6 @@ market_of bs =
 abbrev pub size_said : List ℕ → ℕ
 size_said bs = line_place (two bs 1 + two bs 3) (two bs 5)
 
--- a check of what the first n bytes say, made only where they have come
 abbrev pub in_first : ℕ → List ℕ → Option Refusal → Option Refusal
 in_first n bs fault = cond (nat_le n (length bs)) fault None
 
@@ -70,14 +76,12 @@ head_fault bs =
     else in_first 7 bs (count_fault sorts.Line (two bs 5))
     else when (not (length bs == size_said bs)) (Length (length bs))
 
--- the counts that the head says, or its refusal
 abbrev pub head_of : List ℕ → Head
 head_of bs = record { zones = byte bs 0; buys = two bs 1; sells = two bs 3; lines = two bs 5 }
 
 abbrev pub head_read : List ℕ → Result Head Refusal
 head_read bs = elim (head_fault bs) [ Some refusal ↦ Err refusal | None ↦ Ok (head_of bs) ]
 
--- the first rule that one of the bids or lines breaks, read where they stand
 abbrev pub bids_read : ℕ → List ℕ → ℕ → ℕ → Option Refusal
 bids_read z bs before count = first count (λ k. bid_fault z (bid_place (before + k)) (bid_at bs (bid_place (before + k))))
 
@@ -97,7 +101,6 @@ refusal_of bs = head_fault bs else item_fault (market_of bs)
 abbrev pub refusal_with : List ℕ → Option Refusal → Option Refusal
 refusal_with bs lent = head_fault bs else lent else item_fault (market_of bs)
 
--- the lowest n bytes of a number, low byte first
 abbrev pub low_bytes : ℕ → ℕ → List ℕ
 low_bytes zero v = []
 low_bytes (suc n) v = v % 256 ∷ low_bytes n (v / 256)

@@ -3,8 +3,14 @@
 --   Market           the zones (numbered from 0), the bids to buy, the bids to sell, the lines
 --   count_of m s     how many buys, sells or lines it has
 --   Outcome          an amount for every bid and a flow for every line; a number that a list lacks is 0
+--   at xs k          the number at place k of a list, 0 behind its end
+--   bid, line        the bid, the line at a place of a list; behind its end no_bid, no_line, which are all 0
 --   Proper m         every zone that is named is a zone
+--   in_zone z bs xs  the amounts xs of those bids that lie in zone z, together
+--   into z ls fs     what flows into zone z over the lines ls; out_of z ls fs what flows out of it
+--   Balanced m o z   what is sold in zone z and flows in equals what is bought there and flows out
 --   Feasible m o     o can be carried out: limits kept, every zone in balance
+--   Content l x c v  where a unit costs c and brings v, x is the whole limit l if it brings more, and nothing if it brings less
 --   Settled m o ps   at the zones' prices ps nobody would rather have another amount
 --   worth bs xs      price times amount over the bids bs; what an outcome is worth is that of the buys less that of the sells
 --
@@ -22,7 +28,6 @@ pub record Market : Type 0 where
   pub sells : List Bid
   pub lines : List Line
 
--- how many entries of a sort it has
 abbrev pub count_of : Market → Sort → ℕ
 count_of m sorts.Buy = length m.buys
 count_of m sorts.Sell = length m.sells
@@ -33,7 +38,6 @@ pub record Outcome : Type 0 where
   pub sold : List ℕ
   pub flow : List ℕ
 
--- the number, the bid, the line at a place of a list; behind its end these are 0
 abbrev pub at : List ℕ → ℕ → ℕ
 at xs k = slice_index xs k
 
@@ -55,18 +59,15 @@ pub record Proper (m : Market) : Type 0 where
   pub from : (k : ℕ) → k < length m.lines → (line m.lines k).from < m.zones
   pub to : (k : ℕ) → k < length m.lines → (line m.lines k).to < m.zones
 
--- the amounts xs of those bids that lie in zone z, together
 abbrev pub in_zone : ℕ → List Bid → List ℕ → ℕ
 in_zone z bs xs = tagged (length bs) (λ k. (bid bs k).zone) z (at xs)
 
--- what flows into zone z, and out of it
 abbrev pub into : ℕ → List Line → List ℕ → ℕ
 into z ls fs = tagged (length ls) (λ k. (line ls k).to) z (at fs)
 
 abbrev pub out_of : ℕ → List Line → List ℕ → ℕ
 out_of z ls fs = tagged (length ls) (λ k. (line ls k).from) z (at fs)
 
--- what is sold in zone z and flows in equals what is bought there and flows out
 abbrev pub Balanced : Market → Outcome → ℕ → Type 0
 Balanced m o z =
     in_zone z m.sells o.sold + into z m.lines o.flow

@@ -3,6 +3,7 @@
 --   number_of r   the rule that is broken
 --   place_of r    the byte at which it is broken, counted from the hour's first; for a wrong length the length that came,
 --                 for a lent slice that is too short the slice's number
+--   count_place s the byte at which the hour has the count of a sort
 use Rattle.std.specs.Prelude.{ℕ}
 use Rattle.hour.specs.declared.refusals.Sort.{Sort}
 use Rattle.hour.specs.declared.refusals.Sort.TheVariants.{Buy, Sell, Line}
@@ -21,7 +22,6 @@ number_of (LineZone at zone) = 7
 number_of (LineCapacity at capacity) = 8
 number_of (Lent slice) = 9
 
--- where the hour has the count of a sort
 abbrev pub count_place : Sort → ℕ
 count_place Buy = 1
 count_place Sell = 3

@@ -1,15 +1,22 @@
 -- The rules that an hour keeps, and the first that is broken. Assumes nothing: these are definitions.
 --
+--   max_zones .. max_amount    the limits, all of them
+--   bid_place k          where the k-th bid stands in the bytes, buys first and then sells
+--   line_place b k       where the k-th line stands, behind b bids
+--   zones_fault z        the rule on the number of zones
+--   most_of s            how many entries of a sort an hour has at most; count_fault s n the rule on their number n
 --   bid_fault z p b      the first rule that a bid b at place p breaks, in an hour of z zones: zone, price, amount
 --   line_fault z p l     the same for a line: from, to, capacity
---   count_fault s n      the rule on the number n of entries of a sort s
 --   counts_fault ..      the first rule on numbers of zones, buys, sells and lines that is broken; shape_fault m the same of m
+--   bids_fault z b bs    the first rule that one of the bids bs breaks, behind b others
+--   all_lines_fault ..   the same of lines, behind so many bids
 --   item_fault m         the first rule that a buy, a sell or a line breaks, in this order, each by number
 --   lent_fault k n need  a lent slice with number k that has n numbers is shorter than needed
 --   results_fault n need the first of the slices 0 to 3, which hold a result, that is shorter than needed
+--   BidKept z b          what the rules ask of a bid, in an hour of z zones; LineKept z l the same of a line
 --   KeepsRules m         all that the rules ask of an hour, in words of the market
 --
--- A place is that of the byte in the written hour (see bid_place and line_place).
+-- A place is that of the byte in the written hour.
 use Rattle.std.specs.Prelude.{ℕ, ◌+◌, ◌*◌, ◌<◌, ◌≤◌, ◌||◌, List, length, Option, ◌==◌, nat_le, nat_lt}
 use Rattle.hour.specs.First.{when, ◌else◌, first}
 use Rattle.hour.specs.Market.{Market, bid, line}
@@ -22,7 +29,6 @@ use Rattle.hour.specs.declared.refusals.Sort.{Sort}
 use Rattle.hour.specs.declared.refusals.Sort.TheVariants as sorts
 use Rattle.hour.specs.declared.rules.Lengths.{Lengths}
 
--- the limits, all of them
 abbrev pub max_zones : ℕ
 max_zones = 32
 
@@ -38,7 +44,6 @@ max_price = 400000
 abbrev pub max_amount : ℕ
 max_amount = 1000000
 
--- where the k-th bid stands in the bytes, buys first and then sells; and the k-th line, behind so many bids
 abbrev pub bid_place : ℕ → ℕ
 bid_place k = 7 + 7 * k
 
@@ -48,7 +53,6 @@ line_place bids k = 7 + 7 * bids + 5 * k
 abbrev pub zones_fault : ℕ → Option Refusal
 zones_fault z = when (z == 0 || nat_lt max_zones z) (Zones z)
 
--- how many of each sort an hour has at most, and the rule on it
 abbrev pub most_of : Sort → ℕ
 most_of sorts.Buy = max_bids
 most_of sorts.Sell = max_bids

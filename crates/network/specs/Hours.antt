@@ -3,6 +3,14 @@
 --   Row         a market, an outcome, prices, and what the outcome is worth
 --   Holds r     the outcome can be carried out, the prices settle it and are the lowest that settle anything, and the
 --               worth is as said
+--   bids, joins     a bid, and a line, as they are written here
+--   two_zones c     two zones, with lines of capacity c both ways; narrow and wide are such hours
+--   one_each ask    one zone with a buyer and a seller, who asks so much; traded n both have n; tied and apart are such hours
+--   narrow, wide    the line to the dearer zone is full, so the prices differ; it has room, so they are the same
+--   in_part         a buy that is served in part sets the price
+--   tied n          buyer and seller ask the same, and any amount n will do
+--   unsold          nobody buys
+--   apart           the seller asks less than the buyer bids, and every price between them settles
 --
 -- A bid is written zone, price, amount; a line from, to, capacity.
 use Rattle.std.specs.Prelude.{◌≡◌, ℕ, ◌+◌, List, [], ◌∷◌}
@@ -31,7 +39,6 @@ bids z p a = record { zone = z; price = p; amount = a }
 abbrev pub joins : ℕ → ℕ → ℕ → Line
 joins a b c = record { from = a; to = b; capacity = c }
 
--- two zones, and lines both ways
 abbrev pub two_zones : ℕ → Market
 two_zones capacity =
     record {
@@ -41,7 +48,6 @@ two_zones capacity =
       lines = joins 0 1 capacity ∷ joins 1 0 capacity ∷ [];
     }
 
--- the line to the dearer zone is full, so the prices differ
 abbrev pub narrow : Row
 narrow =
     record {
@@ -51,7 +57,6 @@ narrow =
       worth = 2000;
     }
 
--- the line has room, so the prices are the same
 abbrev pub wide : Row
 wide =
     record {
@@ -61,7 +66,6 @@ wide =
       worth = 2600;
     }
 
--- a buy that is served in part sets the price
 abbrev pub in_part : Row
 in_part =
     record {
@@ -84,11 +88,9 @@ one_each ask =
 abbrev pub traded : ℕ → Outcome
 traded n = record { bought = n ∷ []; sold = n ∷ []; flow = [] }
 
--- buyer and seller ask the same, and any amount will do
 abbrev pub tied : ℕ → Row
 tied n = record { market = one_each 30; outcome = traded n; prices = 30 ∷ []; worth = 0 }
 
--- nobody buys
 abbrev pub unsold : Row
 unsold =
     record {
@@ -98,6 +100,5 @@ unsold =
       worth = 0;
     }
 
--- the seller asks less than the buyer bids, and every price between them settles
 abbrev pub apart : Row
 apart = record { market = one_each 12; outcome = traded 10; prices = 12 ∷ []; worth = 180 }

@@ -11,6 +11,7 @@
 --   carried o i       how much i carries in the outcome o
 --   sum m f           f over all items of m
 --   weighed m w o     what o carries, item by item, times the item's weight
+--   tag v z           1 where v and z are the same node, else 0
 --   inflow, outflow   what o carries into a node, and out of it
 --   gained, spent     what o gains and what it costs
 --   price m ps n      a node's price: that of its zone, and 0 for the hub
@@ -74,7 +75,6 @@ sum m f =
 abbrev pub weighed : Market → (Item → ℕ) → Outcome → ℕ
 weighed m w o = sum m (λ i. w i * carried o i)
 
--- 1 for the node itself, 0 for any other
 abbrev pub tag : ℕ → ℕ → ℕ
 tag v z = cond (v == z) 1 0
 

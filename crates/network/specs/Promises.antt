@@ -4,13 +4,13 @@
 --   Even             buyers pay what sellers get and lines earn; no line earns less than nothing
 --   NoRegret         at the prices, nobody's surplus is higher at another amount within the limit
 --   Exchange         prices that settle one outcome settle every other that some prices settle
---   OneLowest        lowest prices are one list; the lowest that settle one outcome are the lowest that settle any
+--   OneLowest        lowest prices are one list; the lowest that settle one outcome are the lowest that settle any (LowestOne m)
 --   LowestCapped     lowest prices are at or below the dearest bid
 --   Push             an amount that fits, along a closed way, keeps all limits and balances, and changes the worth by
---                    the amount times what the way gains less what it costs
+--                    the amount times what the way gains less what it costs (PushDone)
 --   AtRest           prices that no free step can raise settle; prices that free ways to the hub bear out are at or
---                    below every list that settles
---   WorkedHours      the worked hours come out as written
+--                    below every list that settles (RestSettles)
+--   WorkedHours      the worked hours come out as written (HoursWorked)
 --
 -- Of two sides of an order, what is subtracted stands on the other side: naturals only.
 use Rattle.std.specs.Prelude.{◌≡◌, ℕ, ◌+◌, ◌*◌, ◌<◌, ◌≤◌, List, [], ◌∷◌, length}

@@ -2,7 +2,7 @@
 --
 --   cell t k c       number c, from 0, of item k of the table t
 --   items t          how many items the table t has; one or two numbers at its end that make no item do not count
---   triples t        the rows of the table t, three numbers each
+--   rows_in made t   the rows of the table t, each made of its three numbers; triples t the three numbers of each
 --   of_numbers made  what is made of a row's three numbers
 --   nth_row made t k row k of the table t, made of its three numbers; past the end all three are 0
 --   bids_in t        the bids of a table: zone, price, amount

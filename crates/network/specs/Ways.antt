@@ -1,6 +1,7 @@
 -- Ways through what an outcome leaves free, and pushes along them. Assumes nothing: these are definitions.
 --
 --   Step              forward along an item, from its tail to its head, or backward, from its head to its tail
+--   item s            the item along which the step goes
 --   start, finish     the nodes where a step begins and ends
 --   step_cost         what a unit more costs along the step: backward, what the item gains is lost
 --   step_gain         what a unit more gains along the step: backward, what the item costs is saved
@@ -11,9 +12,12 @@
 --   Once m ss         no node is left twice
 --   way_cost          what a unit more costs along all steps; way_gain what it gains
 --   put xs k x        xs with x in place k, filled up with 0 if it is too short
+--   carry o i x       the outcome o in which the item i carries x
+--   moved o s d       o with d more along the step s
 --   pushed o ss d     o with d more along each of the steps
 --   Resting m o ps    no free step can raise a price: what its end is worth, with the step's gain and cost, is no more
 --                     than what its beginning is worth already
+--   FreeWay m o a b v a free way from a to b whose gain less its cost is v
 --   Reached m o ps z  the price of z is 0, or what a free way from z to the hub gains less what it costs
 --
 -- A way is a list of steps that links; it is closed if it ends where it begins.
@@ -80,7 +84,6 @@ put [] (suc k) x = 0 ∷ put [] k x
 put (y ∷ ys) zero x = x ∷ ys
 put (y ∷ ys) (suc k) x = y ∷ put ys k x
 
--- the outcome o in which the item carries x
 abbrev pub carry : Outcome → Item → ℕ → Outcome
 carry o (Buy k) x = record { bought = put o.bought k x; sold = o.sold; flow = o.flow }
 carry o (Sell k) x = record { bought = o.bought; sold = put o.sold k x; flow = o.flow }
@@ -98,7 +101,6 @@ abbrev pub Resting : Market → Outcome → List ℕ → Type 0
 Resting m o ps =
     (s : Step) → Free m o s → price m ps (finish m s) + step_gain m s ≤ price m ps (start m s) + step_cost m s
 
--- a free way from a to b whose gain less its cost is v
 pub record FreeWay (m : Market) (o : Outcome) (a b v : ℕ) : Type 0 where
   pub steps : List Step
   pub links : Links m a steps b
