@@ -99,6 +99,9 @@ side_amounts o Into = o.flow
 side_amounts o Bought = o.bought
 side_amounts o OutOf = o.flow
 
+abbrev pub side_counted : Market → Outcome → Side → ℕ → ℕ → ℕ
+side_counted m o side z k = cond (side_zone m side k == z) (at (side_amounts o side) k) 0
+
 abbrev pub side_total : Market → Outcome → Side → ℕ → ℕ
 side_total m o side z = tagged (side_count m side) (side_zone m side) z (at (side_amounts o side))
 

@@ -1,11 +1,10 @@
 // Whether each zone is in balance: what is sold there and flows in is what is bought there and flows out.
-ghost use Rattle.std.specs.Prelude.{◌≡◌, ◌-◌, ◌*◌, ◌^◌, ◌<◌, ◌≤◌, if◌then◌else◌, nat_eq};
+ghost use Rattle.std.specs.Prelude.{◌≡◌, ◌-◌, ◌*◌, ◌^◌, ◌<◌, ◌≤◌};
 ghost use Rattle.std.specs.Result.{result_err};
 ghost use Rattle.hour.specs.Seen.{market_seen};
 ghost use Rattle.hour.specs.First.{first};
-ghost use Rattle.hour.specs.Market.{at};
 ghost use Rattle.network.specs.Given.{outcome_given};
-ghost use Rattle.checker.specs.Acceptance.{side_count, side_zone, side_amounts};
+ghost use Rattle.checker.specs.Acceptance.{side_count, side_zone, side_amounts, side_counted};
 ghost use Rattle.checker.specs.Acceptance.{side_total, zone_broken};
 
 use crate::claim::Claim;
@@ -62,9 +61,7 @@ impl<'a> Claim<'a> {
     fn counted(self, side: Side, zone: u64, k: usize) -> u64
         requires { k < side_count (market_seen self.hour) side }
         ensures { result
-            ≡ (if nat_eq (side_zone (market_seen self.entry.hour) side k) zone
-            then at (side_amounts (outcome_given self.entry.amounts) side) k
-            else 0) }
+            ≡ side_counted (market_seen self.entry.hour) (outcome_given self.entry.amounts) side zone k }
     {
         if self.side_zone(side, k) == zone {
             number_at(self.side_amounts(side), k)
@@ -79,11 +76,9 @@ impl<'a> Claim<'a> {
             ≡ side_total (market_seen self.entry.hour) (outcome_given self.entry.amounts) side zone }
         ensures small { result ≤ (2 ^ 64 - 1) * side_count (market_seen self.entry.hour) side }
     {
-        let mut sum: u128 = 0;
-        for k in 0..self.side_count(side) {
-            sum += u128::from(self.counted(side, zone, k));
-        }
-        sum
+        (0..self.side_count(side))
+            .map(|k| u128::from(self.counted(side, zone, k)))
+            .sum()
     }
 
     // Whether as much comes into a zone as goes out of it.

@@ -1,6 +1,7 @@
 pub mod Size
 pub mod Product
 pub mod Limits
+pub mod Summed
 pub mod Writing
 pub mod Even
 pub mod OneLedger

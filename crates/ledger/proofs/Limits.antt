@@ -124,9 +124,12 @@ running_small m rules s k x y below sum row =
     let same : widest s ≤ widest s = omega arith in
     omega (arith, mul-le-mul more same, add-mul k 1 (widest s), widest_all m rules s)
 
--- the first n items of a sort at their own prices
+-- the k-th item of a sort at its own price, and the first n of them
+abbrev pub worth_at : Market → Outcome → Sort → ℕ → ℕ
+worth_at m o s k = asked m (item s k) * carried o (item s k)
+
 abbrev pub worth_to : Market → Outcome → Sort → ℕ → ℕ
-worth_to m o s n = total n (λ k. asked m (item s k) * carried o (item s k))
+worth_to m o s n = total n (worth_at m o s)
 
 module _ (m : Market) (o : Outcome) (rules : KeepsRules m) (feasible : Feasible m o) (s : Sort) where
   pub worth_row : (k : ℕ) → k < count_of m s → asked m (item s k) * carried o (item s k) ≤ 400_000_000_000

@@ -21,17 +21,15 @@ fn item_worth(hour: Hour<'_>, o: Amounts<'_>, sort: Sort, k: usize) -> u64
     price_asked(hour, item) * o.of(item)
 }
 
-// The items of one sort at their own prices. The sum is a loop: of a mapped `sum` it is not proved that the total fits 64 bits.
+// The items of one sort at their own prices.
 fn worth_of(hour: Hour<'_>, o: Amounts<'_>, sort: Sort) -> u64
     requires { Feasible (market_seen hour) (outcome_given o) }
     ensures value { result ≡ worth_of (market_seen hour.entry) (outcome_given o.entry) sort }
     ensures small { result ≤ 400000000000000 }
 {
-    let mut sum = 0;
-    for k in 0..hour.count(sort) {
-        sum += item_worth(hour, o, sort, k);
-    }
-    sum
+    (0..hour.count(sort))
+        .map(|k| item_worth(hour, o, sort, k))
+        .sum()
 }
 
 // What is bought is worth, less what is sold.

@@ -1,31 +1,26 @@
 -- A sort has at most 1,000 items.
-use Rattle.std.proofs.Common.{arith}
+use Rattle.std.proofs.Common.{ℕ, ap, ◌∙◌, arith, rules, tests}
 use Rattle.hour.specs.Seen.{market_seen}
+use Rattle.hour.specs.Total.{total}
 use Rattle.network.specs.Given.{outcome_given}
-use Rattle.ledger.proofs.Limits.{rules_of, worth_to_small, count_small}
+use Rattle.ledger.proofs.Limits.{rules_of, count_small, worth_at}
+use Rattle.ledger.proofs.Summed.{sum_fits, sum_both}
 use Rattle.ledger.proofs.worth.worth_of.Goals as goal
 
-pub overflow_add-sum : goal.overflow_add-sum
-overflow_add-sum c =
+pub sum-requires-clause-fits : goal.sum-requires-clause-fits
+sum-requires-clause-fits c =
     let m = market_seen c.args.hour in
-    let rules = rules_of c.args.hour in
-    let s = c.args.sort in
-    omega (
-      arith,
-      c.loop-k.invariant,
-      c.item_worth-sum.ensures.small,
-      worth_to_small m (outcome_given c.args.o) rules c.requires s c.loop-k.k (omega (arith, c.count-k-end.ensures)),
-      count_small m rules s,
-    )
+    let worth = worth_at m (outcome_given c.args.o) c.args.sort in
+    sum_fits c.count.result 400_000_000_000 worth c.map.ensures.source c.map.ensures.closure
+    (λ x r q k. search (rules, tests)) _ (omega (arith, c.count.ensures, count_small m (rules_of c.args.hour) c.args.sort))
 
-pub returns-clause-small : goal.returns-clause-small
-returns-clause-small c =
+pub returns : goal.returns
+returns c =
     let m = market_seen c.args.hour in
-    let rules = rules_of c.args.hour in
-    let s = c.args.sort in
-    omega (
-      arith,
-      c.loop-k.invariant,
-      worth_to_small m (outcome_given c.args.o) rules c.requires s c.loop-k.k (omega (arith, c.count-k-end.ensures)),
-      count_small m rules s,
-    )
+    let worth = worth_at m (outcome_given c.args.o) c.args.sort in
+    let summed = sum_both c.count.result 400_000_000_000 worth c.map.ensures.source c.map.ensures.closure
+    (λ x r q k. search (rules, tests)) c.sum.result c.sum.ensures.ran in
+    record {
+      value = summed.0 ∙ ap (λ (n : ℕ). total n worth) c.count.ensures;
+      small = omega (arith, summed.1, c.count.ensures, count_small m (rules_of c.args.hour) c.args.sort);
+    }
