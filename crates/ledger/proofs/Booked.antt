@@ -1,5 +1,5 @@
 -- The ledger of what is found, and what the fronts of slices say of it. Assumes nothing.
-use Rattle.std.proofs.Common.{◌≡◌, ℕ, zero, suc, ◌+◌, ◌-◌, ◌≤◌, List, ◌++◌, length, take, drop, replicate, ◌+ℤ◌, sym, refl, ap, ◌∙◌, subst, ap₂, arith, w64, of_z}
+use Rattle.std.proofs.Common.{◌≡◌, ℕ, zero, suc, ◌+◌, ◌≤◌, List, length, drop, ◌+ℤ◌, sym, refl, ap, ◌∙◌, subst, ap₂, arith, w64, of_z}
 use Rattle.std.proofs.lemmas.List.{ext_get_or, get_or-drop, length-drop}
 use Rattle.hour.specs.Bytes.{market_of}
 use Rattle.hour.specs.Market.{Market, Outcome, Proper, at, count_of}
@@ -13,7 +13,6 @@ use Rattle.network.specs.Tables.{outcome_in}
 use Rattle.network.specs.declared.arcs.Item.{Item}
 use Rattle.network.specs.declared.arcs.Item.TheVariants.{Buy, Sell, Line}
 use Rattle.prices.proofs.Bounds.{proper_kept}
-use Rattle.prices.proofs.Entries.{returned, wiped_front}
 use Rattle.prices.proofs.Promised.{found_promised}
 use Rattle.prices.specs.Found.{Found, Promised, result_in, prices_in}
 use Rattle.ledger.proofs.Even.{ledger_even}
@@ -78,12 +77,6 @@ pub behind_kept :
 behind_kept n xs ys long same =
     ext_get_or 0 (drop n xs) (drop n ys) (omega (arith, length-drop n xs, length-drop n ys))
     (λ k below. get_or-drop n xs k 0 ∙ (same (n + k) (omega arith) ∙ sym (get_or-drop n ys k 0)))
-
--- a front at zeros, whose length has another name
-pub wiped_counted :
-    (k n : ℕ) (xs ys : List ℕ) → k ≡ n → n ≤ length xs → ys ≡ replicate (length (take (n - 0) xs)) 0 →
-    returned n xs ys ≡ replicate k 0 ++ drop k xs
-wiped_counted k n xs ys same fits zeros = rw same (wiped_front n xs ys fits zeros)
 
 -- what is promised of an hour that was cleared
 module _ (m : Market) (kept : KeepsRules m) (n : ℕ) (old new : Slices) (done : ClearedIn m n old new) where

@@ -48,6 +48,7 @@ fn clear_fitted(
 
 // Clears a market that keeps the rules, beginning with nothing bought, sold or carried. Answers how many pushes there were. Slices
 // past what is needed are left as they were.
+#[tactic(auto, using(network::proofs::Rows::length_bids_in, network::proofs::Rows::length_lines_in))]
 pub fn clear_slices(
     t: Tables,
     bought: &mut [u64],

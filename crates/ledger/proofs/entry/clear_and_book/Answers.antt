@@ -1,8 +1,8 @@
 use Rattle.std.proofs.Common.{◌*◌, arith}
-use Rattle.prices.proofs.Entries.{past_same}
+use Rattle.prices.proofs.Entries.{past_same, wiped_front}
 use Rattle.hour.specs.Seen.{market_seen}
 use Rattle.ledger.specs.Money.{row_count}
-use Rattle.ledger.proofs.Booked.{payable_found, booked_front, wiped_counted}
+use Rattle.ledger.proofs.Booked.{payable_found, booked_front}
 use Rattle.ledger.proofs.Limits.{rules_of}
 use Rattle.ledger.proofs.entry.clear_and_book.Goals as goal
 
@@ -23,5 +23,5 @@ returns c =
       flow = past_same hour.lines _ _ _ hour.lines_count done.flow;
       price = past_same hour.zones _ _ _ hour.zones_said done.price;
       ledger = c.write_ledger.ensures.behind;
-      work = wiped_counted (64 * row_count (market_seen hour)) _ _ _ (omega arith) (omega arith) done.work;
+      work = wiped_front (64 * row_count (market_seen hour)) _ _ _ (omega arith) (omega arith) done.work;
     }
