@@ -1,6 +1,6 @@
 -- What is published of an hour that is cleared in slices just long enough, or refused. Assumes nothing.
-use Rattle.std.proofs.Common.{◌≡◌, ℕ, ◌+◌, ◌*◌, List, [], ◌∷◌, ◌++◌, length, take, drop, Some, None, Ok, Option, sym, ap, ◌∙◌, subst, arith}
-use Rattle.std.proofs.lemmas.List.{take_all, take-append-le}
+use Rattle.std.proofs.Common.{◌≡◌, ℕ, ◌+◌, ◌*◌, List, [], ◌∷◌, ◌++◌, length, take, Some, None, Ok, Option, sym, ap, ◌∙◌, subst, arith}
+use Rattle.std.proofs.lemmas.List.{take_all}
 use Rattle.hour.proofs.Heads.{head_read_ok}
 use Rattle.hour.proofs.Kept.{kept, buys_count, sells_count, lines_count}
 use Rattle.hour.specs.Bytes.{head_read, market_of, refusal_of}
@@ -11,6 +11,7 @@ use Rattle.hour.specs.declared.reading.Head.{Head}
 use Rattle.hour.specs.declared.refusals.Refusal.{Refusal}
 use Rattle.network.specs.Tables.{outcome_in}
 use Rattle.prices.proofs.Bounds.{proper_kept}
+use Rattle.prices.proofs.Entries.{take_front}
 use Rattle.prices.proofs.Promised.{found_promised}
 use Rattle.prices.specs.Ended.{lengths}
 use Rattle.prices.specs.Found.{Fitted, Found, result_in, prices_in}
@@ -50,9 +51,10 @@ module _ (bs bought sold flow price ledger work : List ℕ) (head : Head) (read 
       ≡ refusal_of bs
   refusal_lent lent =
       let same = (head_read_ok bs head read).1 in
+      let has = lengths (length bought) (length sold) (length flow) (length price) in
       refusal_enough bs _ _ _
-      (subst (λ (h : Head). slices_fault h (lengths (length bought) (length sold) (length flow) (length price)) (length ledger) (length work) ≡ None) same
-      (slices_enough head (lengths (length bought) (length sold) (length flow) (length price)) (length ledger) (length work)
+      (subst (λ (h : Head). slices_fault h has (length ledger) (length work) ≡ None) same
+      (slices_enough head has (length ledger) (length work)
       (omega (arith, lent.bought_long)) (omega (arith, lent.sold_long)) (omega (arith, lent.flow_long))
       (omega (arith, lent.price_long)) (omega (arith, lent.ledger_long)) (omega (arith, lent.work_long))))
 
@@ -93,7 +95,9 @@ module _
         (subst (λ (ps : List ℕ). LedgerOf m (result_in m b s f) ps l) all_prices booked)
 
     found_whole : Found m n (outcome_in b s f) p
-    found_whole = subst (λ (o : Outcome). Found m n o p) whole (subst (λ (ps : List ℕ). Found m n (result_in m b s f) ps) all_prices found)
+    found_whole =
+        subst (λ (o : Outcome). Found m n o p) whole
+        (subst (λ (ps : List ℕ). Found m n (result_in m b s f) ps) all_prices found)
 
     pub cleared_whole : (text : List ℕ) → text ≡ result_of m (outcome_in b s f) p n → ClearedText m text
     cleared_whole text is =
@@ -108,11 +112,15 @@ module _
           text_is = is;
         }
 
--- a slice that is read again once it was lent and came back as ys
-pub lent_read :
-    (n k : ℕ) (xs ys zs : List ℕ) → zs ≡ take n (ys ++ drop k xs) → length ys ≡ n → zs ≡ ys
-lent_read n k xs ys zs is long =
-    is ∙ take-append-le n ys (drop k xs) (omega arith) ∙ take_all n ys (omega arith)
+-- a slice that held old when it was lent, came back as new, and is read
+pub record Again (old new read : List ℕ) : Type 0 where
+  pub long : length new ≡ length old
+  pub same : read ≡ new
+
+pub again :
+    {n : ℕ} {old new read : List ℕ} (rest : List ℕ) → length new ≡ length old → length old ≡ n →
+    read ≡ take n (new ++ rest) → Again old new read
+again rest long all is = record { long = long; same = is ∙ take_front _ _ _ (long ∙ all) }
 
 -- what is shown of an hour that was cleared in such slices, which hold b, s, f, p and l and are read under other names
 pub record Shown (bs cs b s f p l : List ℕ) (n : ℕ) : Type 0 where
@@ -121,16 +129,21 @@ pub record Shown (bs cs b s f p l : List ℕ) (n : ℕ) : Type 0 where
   pub says : (text : List ℕ) → text ≡ result_of (market_of cs) (outcome_in b s f) p n → Published bs text
 
 pub shown :
-    {bs b s f p l cs b' s' f' p' l' : List ℕ} {n : ℕ} → None ≡ refusal_of bs → Fitted (market_of bs) b s f p →
+    {bs cs bought sold flow price ledger work b s f p l b' s' f' p' l' : List ℕ} {head : Head} {n : ℕ} →
+    head_read bs ≡ Ok head → LentFor head bought sold flow price ledger work →
+    None ≡ hour_fault bs (lengths (length bought) (length sold) (length flow) (length price)) (length ledger) (length work) →
     Found (market_of bs) n (result_in (market_of bs) b s f) (prices_in (market_of bs) p) →
-    LedgerOf (market_of bs) (result_in (market_of bs) b s f) (prices_in (market_of bs) p) l → cs ≡ bs → b' ≡ b → s' ≡ s →
-    f' ≡ f → p' ≡ p → l' ≡ l → Shown bs cs b' s' f' p' l' n
-shown {bs} {b} {s} {f} {p} {l} {n = n} none fitted found booked bytes bought sold flow price ledger =
-    let rules = kept bs (sym none) in
+    LedgerOf (market_of bs) (result_in (market_of bs) b s f) (prices_in (market_of bs) p) l → cs ≡ bs →
+    Again bought b b' → Again sold s s' → Again flow f f' → Again price p p' → l' ≡ l → Shown bs cs b' s' f' p' l' n
+shown {bs} {b = b} {s = s} {f = f} {p = p} {l = l} {n = n} read lent none found booked bytes bought sold flow price ledger =
+    let refused = refusal_lent bs _ _ _ _ _ _ _ read lent in
+    let fitted = fitted_lent bs _ _ _ _ _ _ _ read lent b s f p bought.long sold.long flow.long price.long in
+    let rules = kept bs (sym (none ∙ refused)) in
     let m = market_of bs in
-    rw (bytes, bought, sold, flow, price, ledger)
+    rw (bytes, bought.same, sold.same, flow.same, price.same, ledger)
     record {
       payable = payable_whole m rules b s f p l fitted n found booked;
       booked = booked_whole m rules b s f p l fitted n found booked;
-      says = λ text is. cleared_published bs text none (cleared_whole m rules b s f p l fitted n found booked text is);
+      says = λ text is.
+          cleared_published bs text (none ∙ refused) (cleared_whole m rules b s f p l fitted n found booked text is);
     }
