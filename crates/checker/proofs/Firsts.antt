@@ -55,7 +55,8 @@ module _ (test : ℕ → Bool) where
   found (suc n) k some = go (found n k) (first n (λ j. when (test j) j)) refl (test n) refl some
     where
       go :
-          (first n (λ j. when (test j) j) ≡ Some k → Found n k) → (earlier : Option ℕ) → first n (λ j. when (test j) j) ≡ earlier →
+          (first n (λ j. when (test j) j) ≡ Some k → Found n k) → (earlier : Option ℕ) →
+          first n (λ j. when (test j) j) ≡ earlier →
           (here : Bool) → test n ≡ here → (earlier else when here n) ≡ Some k → Found (suc n) k
       go ih (Some j) is here passes some =
           let inner = ih (is ∙ some) in

@@ -29,7 +29,8 @@ module _ (bs : List ℕ) where
     slice_refused e is =
         sym (head_stands ∙ ap (λ (fault : Option Refusal). fault else item_fault (market_of bs)) (sym is))
 
-    pub item_refused : (e : Refusal) → None ≡ lent h → Some e ≡ item_fault (market_of bs) → Some e ≡ refusal_with bs (lent (head_of bs))
+    pub item_refused :
+        (e : Refusal) → None ≡ lent h → Some e ≡ item_fault (market_of bs) → Some e ≡ refusal_with bs (lent (head_of bs))
     item_refused e none is =
         is ∙ sym (head_stands ∙ ap (λ (fault : Option Refusal). fault else item_fault (market_of bs)) (sym none))
 

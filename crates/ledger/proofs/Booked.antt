@@ -54,10 +54,13 @@ module _ (m : Market) (ps qs : List ℕ) (proper : Proper m) (same : AgreePrices
 
 -- what was found stands at the front of slices: they can be booked as they are, and what is booked is of what was found
 module _ (m : Market) (kept : KeepsRules m) (bought sold flow price : List ℕ) where
-  pub payable_found : (n : ℕ) → Found m n (result_in m bought sold flow) (prices_in m price) → Payable m (outcome_in bought sold flow) price
+  pub payable_found :
+      (n : ℕ) → Found m n (result_in m bought sold flow) (prices_in m price) →
+      Payable m (outcome_in bought sold flow) price
   payable_found n found =
       let promised = found_promised m n _ _ (proper_kept m kept) found in
-      let dear : PricesTo m max_price = record { buys = λ k below. (kept.each_buy k below).price; sells = λ k below. (kept.each_sell k below).price } in
+      let dear : PricesTo m max_price =
+      record { buys = λ k below. (kept.each_buy k below).price; sells = λ k below. (kept.each_sell k below).price } in
       record {
         feasible = feasible_agree m _ _ (fronts_agree m bought sold flow) promised.feasible;
         prices = λ z below. omega (arith, lowest_capped m max_price _ promised.lowest dear z below, front_prices m price z below);

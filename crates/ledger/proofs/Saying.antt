@@ -64,7 +64,8 @@ pub five_parts :
 five_parts t₀ t₁ t₂ t₃ t₄ t₅ w z b s l W Z B S L one two three four five w_is z_is b_is s_is l_is =
     rw (five, four, three, two, one, w_is, z_is, b_is, s_is, l_is) (simp append_assoc)
 
-pub zone_rows_say : (n : ℕ) (ps zs : List ℕ) → length zs ≡ n → zs ≡ take n ps → zone_rows (length zs) zs ≡ zone_rows n ps
+pub zone_rows_say :
+    (n : ℕ) (ps zs : List ℕ) → length zs ≡ n → zs ≡ take n ps → zone_rows (length zs) zs ≡ zone_rows n ps
 zone_rows_say n ps zs long is =
     rw long (rows_same n _ _ (λ z h. ap (zone_row z) (ap (λ (xs : List ℕ). at xs z) is ∙ get_or-take n ps z 0 h)))
 

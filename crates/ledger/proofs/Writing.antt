@@ -32,7 +32,8 @@ module _ (c : Cleared) (s : Sort) where
 
   -- one more row, and a sum with it; a sort has few rows, so the sum stays small
   pub rows_more :
-      (n bits cell : ℕ) (l : List ℕ) (more : ℤ) → Rows c s n l (to_z w64 bits) → more ≡ money_in c (item s n) → nat_abs more ≤ widest s → n < count_of (market_seen c.hour) s → n < length l →
+      (n bits cell : ℕ) (l : List ℕ) (more : ℤ) → Rows c s n l (to_z w64 bits) → more ≡ money_in c (item s n) →
+      nat_abs more ≤ widest s → n < count_of (market_seen c.hour) s → n < length l →
       cell ≡ of_z w64 (to_z w64 (of_z w64 more)) →
       Rows c s (n + 1) (set l n cell) (to_z w64 (of_z w64 (to_z w64 bits +ℤ to_z w64 (of_z w64 more))))
   rows_more n bits cell l more so_far is row_small below room written =
@@ -75,11 +76,13 @@ module _
 
     pub past_sells : (j k : ℕ) → length m.buys + length m.sells + j ≡ k → at joined k ≡ at (l ++ t) j
     past_sells j k is =
-        past_buys (length m.sells + j) k (omega arith) ∙ past s (l ++ t) (length m.sells) j (length m.sells + j) sells (omega arith)
+        past_buys (length m.sells + j) k (omega arith)
+        ∙ past s (l ++ t) (length m.sells) j (length m.sells + j) sells (omega arith)
 
     pub past_lines : (j k : ℕ) → row_count m + j ≡ k → at joined k ≡ at t j
     past_lines j k is =
-        past_sells (length m.lines + j) k (omega arith) ∙ past l t (length m.lines) j (length m.lines + j) lines (omega arith)
+        past_sells (length m.lines + j) k (omega arith)
+        ∙ past l t (length m.lines) j (length m.lines + j) lines (omega arith)
 
 -- the same with their sums
 module _
@@ -96,10 +99,16 @@ module _
     abbrev pub sums : List ℕ
     sums = set (set (set t 0 p) 1 g) 2 e
 
+    abbrev pub written : List ℕ
+    written = joined m b s l sums b_long s_long l_long
+
+    abbrev pub sum_to : Sort → ℕ → ℤ
+    sum_to o n = sumℤ n (λ k. money_in c (item o k))
+
     row_written :
-        (o : Sort) (k : ℕ) → k < count_of m o → at (joined m b s l sums b_long s_long l_long) (first_row m o + k) ≡ of_z w64 (money_in c (item o k))
+        (o : Sort) (k : ℕ) → k < count_of m o → at written (first_row m o + k) ≡ of_z w64 (money_in c (item o k))
     row_written sorts.Buy k h =
-        ap (at (joined m b s l sums b_long s_long l_long)) (zero-add k)
+        ap (at written) (zero-add k)
         ∙ get_or_append_left b (s ++ (l ++ sums)) 0 k (omega arith) ∙ buys.rows k (omega arith)
     row_written sorts.Sell k h =
         past_buys m b s l sums b_long s_long l_long k _ refl
@@ -108,23 +117,27 @@ module _
         past_sells m b s l sums b_long s_long l_long k _ refl
         ∙ get_or_append_left l sums 0 k (omega arith) ∙ lines.rows k (omega arith)
 
-    bits : (o : Sort) (n : ℕ) (z : ℤ) → n ≡ count_of m o → nat_abs z ≤ n * widest o → of_z w64 (to_z w64 (of_z w64 z)) ≡ of_z w64 z
+    bits :
+        (o : Sort) (n : ℕ) (z : ℤ) → n ≡ count_of m o → nat_abs z ≤ n * widest o →
+        of_z w64 (to_z w64 (of_z w64 z)) ≡ of_z w64 z
     bits o n z same small = sum_bits m (rules_of c.hour) o z (subst (λ (i : ℕ). nat_abs z ≤ i * widest o) same small)
 
-    total_is : (o : Sort) (n : ℕ) (z : ℤ) → n ≡ count_of m o → z ≡ sumℤ n (λ k. money_in c (item o k)) → z ≡ sumℤ (count_of m o) (λ k. money_in c (item o k))
-    total_is o n z same is = is ∙ ap (λ (i : ℕ). sumℤ i (λ k. money_in c (item o k))) same
+    total_is : (o : Sort) (n : ℕ) (z : ℤ) → n ≡ count_of m o → z ≡ sum_to o n → z ≡ sum_to o (count_of m o)
+    total_is o n z same is = is ∙ ap (sum_to o) same
 
-    sum_written : (o : Sort) → at (joined m b s l sums b_long s_long l_long) (sum_row m o) ≡ of_z w64 (sumℤ (count_of m o) (λ k. money_in c (item o k)))
+    sum_written : (o : Sort) → at written (sum_row m o) ≡ of_z w64 (sum_to o (count_of m o))
     sum_written sorts.Buy =
         past_lines m b s l sums b_long s_long l_long 0 _ (omega arith)
         ∙ get_or-set_other (set (set t 0 p) 1 g) 2 0 e 0 (omega arith)
         ∙ get_or-set_other (set t 0 p) 1 0 g 0 (omega arith)
-        ∙ get_or-set_same t 0 p 0 (omega arith) ∙ p_is ∙ bits sorts.Buy _ paid b_long buys.small
+        ∙ get_or-set_same t 0 p 0 (omega arith)
+        ∙ p_is ∙ bits sorts.Buy _ paid b_long buys.small
         ∙ ap (of_z w64) (total_is sorts.Buy _ paid b_long buys.total)
     sum_written sorts.Sell =
         past_lines m b s l sums b_long s_long l_long 1 _ refl
         ∙ get_or-set_other (set (set t 0 p) 1 g) 2 1 e 0 (omega arith)
-        ∙ get_or-set_same (set t 0 p) 1 g 0 (omega (arith, length-set t 0 p)) ∙ g_is ∙ bits sorts.Sell _ got s_long sells.small
+        ∙ get_or-set_same (set t 0 p) 1 g 0 (omega (arith, length-set t 0 p))
+        ∙ g_is ∙ bits sorts.Sell _ got s_long sells.small
         ∙ ap (of_z w64) (total_is sorts.Sell _ got s_long sells.total)
     sum_written sorts.Line =
         past_lines m b s l sums b_long s_long l_long 2 _ refl
@@ -132,14 +145,13 @@ module _
         ∙ e_is ∙ bits sorts.Line _ earned l_long lines.small
         ∙ ap (of_z w64) (total_is sorts.Line _ earned l_long lines.total)
 
-    pub ledger_written : LedgerIn c (joined m b s l sums b_long s_long l_long)
+    pub ledger_written : LedgerIn c written
     ledger_written = record { rows = row_written; sums = sum_written }
 
     -- what stood behind them stays
     pub kept_behind :
         (b' s' l' before : List ℕ) → length b' ≡ length m.buys → length s' ≡ length m.sells → length l' ≡ length m.lines →
-        before ≡ b' ++ (s' ++ (l' ++ t)) →
-        drop (row_count m + 3) (joined m b s l sums b_long s_long l_long) ≡ drop (row_count m + 3) before
+        before ≡ b' ++ (s' ++ (l' ++ t)) → drop (row_count m + 3) written ≡ drop (row_count m + 3) before
     kept_behind b' s' l' before bl sl ll is =
         behind_kept (row_count m + 3) _ before
         (omega (arith, ap length is, length-append {A = ℕ}, length-set {A = ℕ}))

@@ -15,14 +15,16 @@ returns-in_err-head-clause-refused c =
 
 pub returns-in_err-check_slices_and_marks-clause-refused : goal.returns-in_err-check_slices_and_marks-clause-refused
 returns-in_err-check_slices_and_marks-clause-refused c =
-    let lent = λ (head : Head). lent_refusal head (outcome_given c.args.amounts) c.args.prices.now else lent_fault 4 c.args.lent head.zones in
+    let lent = λ (head : Head).
+    lent_refusal head (outcome_given c.args.amounts) c.args.prices.now else lent_fault 4 c.args.lent head.zones in
     let slices = c.in_err-check_slices_and_marks in
     let is : result_err c.from_residual-in_err-check_slices_and_marks.result ≡ Some slices.field-0.0 = search rules in
     is ∙ slice_refused c.args.bytes.now lent _ (sym c.in_ok-head.ensures) _ slices.ensures
 
 pub returns-in_err-check_items-clause-refused : goal.returns-in_err-check_items-clause-refused
 returns-in_err-check_items-clause-refused c =
-    let lent = λ (head : Head). lent_refusal head (outcome_given c.args.amounts) c.args.prices.now else lent_fault 4 c.args.lent head.zones in
+    let lent = λ (head : Head).
+    lent_refusal head (outcome_given c.args.amounts) c.args.prices.now else lent_fault 4 c.args.lent head.zones in
     let items = c.in_err-check_items in
     let is : result_err c.from_residual-in_err-check_items.result ≡ Some items.field-0.0 = search rules in
     is

@@ -17,7 +17,8 @@ returns-in_err-check g c =
 pub returns : goal.returns
 returns g c =
     let table = c.args.table.now in
+    let row = λ (k : ℕ). g.E.Row.made (cell table k 0) (cell table k 1) (cell table k 2) in
     let all : length (rows_in g.E.Row.made table) ≡ c.loop-k.k =
-    omega (arith, length-map-range_with_len (λ k. g.E.Row.made (cell table k 0) (cell table k 1) (cell table k 2)) 0 (items table))
+    omega (arith, length-map-range_with_len row 0 (items table))
     in
     rw all (sym c.loop-k.invariant)
