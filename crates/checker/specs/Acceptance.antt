@@ -3,9 +3,13 @@
 --   claimed f c            f of the market, the outcome and the prices of a claim
 --   content_test l x c v   whether x is content, as Content says, where a unit costs c and brings v
 --   item_broken            the rule that a buy, a sell or a line breaks: too large comes before not allowed
+--   buy_broken, sell_broken, line_broken
+--                          the same for number k of them
 --   sort_broken            the same for number k of a sort, and first_broken for the first of them
 --   comes, goes            what is sold in a zone and flows in; what is bought there and flows out
---   side_total             one of the four sums of a zone's balance
+--   side_total             one of the four sums of a zone's balance: of side_count items, each of them in its side_zone, with an
+--                          amount in side_amounts
+--   side_counted           the amount of item k of a side where it counts in a zone, and else nothing
 --   zone_broken            a zone out of balance
 --   broken_of m o ps       the first rule broken: buys, sells, lines, zones, each by number
 --   lent_refusal h o ps    the first lent slice too short for an hour with the head h: amounts bought 0, sold 1, flows 2,
@@ -15,6 +19,7 @@
 --   unless e x             x where there is no error, else the error
 --   verdict_of bs o ps     the verdict on an outcome and prices of the hour that the bytes say
 --   Stands bs o ps         nothing is refused, the outcome can be carried out, and the prices settle it
+--   Exactly P Q            each of two follows from the other
 --
 -- Lists may be longer than needed. Prices are any numbers.
 use Rattle.std.specs.Prelude.{◌≡◌, ℕ, ◌+◌, Bool, true, cond, not, List, length, Some, None, Ok, Err, Option, Result, ◌==◌, nat_lt}
@@ -64,7 +69,6 @@ line_broken m o ps k =
     item_broken sorts.Line k
     (line m.lines k).capacity (at o.flow k) (at ps (line m.lines k).from) (at ps (line m.lines k).to)
 
--- the rule that number k of a sort breaks
 abbrev pub sort_broken : Market → Outcome → List ℕ → Sort → ℕ → Option Broken
 sort_broken m o ps sorts.Buy k = buy_broken m o ps k
 sort_broken m o ps sorts.Sell k = sell_broken m o ps k
@@ -79,8 +83,6 @@ comes m o z = in_zone z m.sells o.sold + into z m.lines o.flow
 abbrev pub goes : Market → Outcome → ℕ → ℕ
 goes m o z = in_zone z m.buys o.bought + out_of z m.lines o.flow
 
--- how many there are of what a side sums up, the zone that each of them counts in, the amount of each, and their amounts in
--- that zone together
 abbrev pub side_count : Market → Side → ℕ
 side_count m Sold = length m.sells
 side_count m Into = length m.lines
@@ -143,6 +145,5 @@ pub record Stands (bs : List ℕ) (o : Outcome) (ps : List ℕ) : Type 0 where
   pub feasible : Feasible (market_of bs) o
   pub settled : Settled (market_of bs) o ps
 
--- each of two follows from the other
 abbrev pub Exactly : Type 0 → Type 0 → Type 0
 Exactly P Q = (P → Q) × (Q → P)

@@ -1,6 +1,7 @@
 -- Which rows of a text do not follow from its amounts and prices. Assumes nothing: these are definitions.
 --
 --   money_at ds k        the money that row k of a sort says
+--   figure_wrong         a number that is written where another follows
 --   row_wrong            a row of money that is another than the amount and the prices make
 --   rows_wrong           the first of them in a sort
 --   worth_wrong          a worth that is another than the amounts make
@@ -23,7 +24,6 @@ use Rattle.checker.specs.declared.reports.Wrong.{Wrong}
 abbrev pub money_at : List ℤ → ℕ → ℤ
 money_at ds k = slice_index_or ds k (pos 0)
 
--- a number that is written where another follows
 abbrev pub figure_wrong : ℕ → Option Sort → ℤ → ℤ → Option Wrong
 figure_wrong line figure follows written =
     when (not (int_eq follows written))

@@ -1,17 +1,27 @@
 -- The form of a published text, row by row. Assumes nothing: these are definitions.
 --
---   phrasing s            what stands around the numbers in a row of a sort
+--   Phrasing              what stands around the numbers in a row; phrasing s in a row of a sort; phrased the same where the code has it
 --   worth_at bs           the row of the worth: the worth and the count of pushes
 --   zone_at z bs          the row of zone z: its price
+--   row_at w k bs         a row with such words: its number k, its amount and its money
 --   item_at s k bs        the row of the k-th of a sort: its amount and its money
---   o ok-then f           f of what o has, or the line that is not in the form
+--   o ok_then f           f of what o has, or the line that is not in the form
 --   steps f t n           n steps one after the other, counted from 0, the first at t
 --   Prices, Table         what the rows of the zones say, and those of a sort, and the text behind them
+--   priced, table         what such rows say, put together
+--   one_price, one_more   one row more, if it is in the form
+--   zone_step, item_step  the next row of the zones, and of a sort
 --   zones_at l n bs       the rows of n zones, the first of them at line l
 --   items_at s l n bs     the rows of n buys, sells or lines
---   Saying                all that a text says
+--   Saying                all that a text says; saying puts it together
+--   worth_line            the row of the worth, or the first line
+--   ended l bs x          x where nothing stands behind the last row, else line l
+--   rows_of n s           how many rows a sort has; first_line n s the line at which they begin; last_line n the one behind all rows
 --   text_at n bs          what a text for so many zones, buys, sells and lines says; or its first line that is not in the form
---   AnswersAs r d         an answer is what a definition says, unless memory was wanting
+--   prices_seen, table_seen, said_seen
+--                         the same where the code has them
+--   Stopped               a line is the one that a definition says, and of want of memory nothing is said
+--   AnswersAs r seen d    an answer is what a definition says, unless memory was wanting
 --
 -- Lines count from 1. A line that is missing is the one behind the last; so is text behind the last row.
 use Rattle.std.specs.Prelude.{◌≡◌, ℕ, zero, suc, ◌+◌, List, [], ◌∷◌, ◌++◌, ℤ, Some, None, Ok, Err, vec_items, codes, Result, MatchResult}
@@ -37,7 +47,6 @@ phrasing sorts.Buy = record { sort = codes "buy "; has = codes " has "; pays = c
 phrasing sorts.Sell = record { sort = codes "sell "; has = codes " has "; pays = codes " gets " }
 phrasing sorts.Line = record { sort = codes "line "; has = codes " carries "; pays = codes " earns " }
 
--- the same where the code has them
 abbrev pub phrased : Phrases → Phrasing
 phrased w = record { sort = w.sort.now; has = w.has.now; pays = w.pays.now }
 
@@ -114,17 +123,14 @@ pub record Saying : Type 0 where
 abbrev pub saying : ℤ × ℕ → Prices → Table → Table → Table → Saying
 saying w z b s l = record { worth = w.0; pushes = w.1; zones = z; buys = b; sells = s; lines = l }
 
--- the row of the worth is the first line
 abbrev pub worth_line : Read (ℤ × ℕ) → Result ((ℤ × ℕ) × List ℕ) ℕ
 worth_line (Some w) = Ok w
 worth_line None = Err 1
 
--- nothing stands behind the last row
 abbrev pub ended : {A : Type 0} → ℕ → List ℕ → A → Result A ℕ
 ended line [] x = Ok x
 ended line (b ∷ bs) x = Err line
 
--- how many rows a sort has, and the line at which they begin
 abbrev pub rows_of : Counts → Sort → ℕ
 rows_of n sorts.Buy = n.buys
 rows_of n sorts.Sell = n.sells
@@ -147,7 +153,6 @@ text_at n bs =
     items_at sorts.Line (first_line n sorts.Line) n.lines s.rest ok_then λ l.
     ended (last_line n) l.rest (saying w.0 z b s l)
 
--- the same where the code has them
 abbrev pub prices_seen : Zones → Prices
 prices_seen t = priced (vec_items t.prices) t.rest.now
 

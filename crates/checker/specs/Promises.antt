@@ -4,11 +4,15 @@
 --   Published bs o ps    an hour, with an outcome that can be carried out and prices that settle it, lists long enough
 --   PublishedAccepted    such a result is accepted
 --   LowestFound          if its prices are the lowest, the answer about them is that they are
+--   outcome_left new     the outcome that stands in the slices of the entry
 --   HouseAccepted        what the entry on an hour's bytes leaves of an hour that it cleared is accepted
 --   HouseLowest          and its prices are found the lowest
 --   HouseText            whatever is reported of the text that the house publishes of an hour is: accepted, and lowest
+--   Answers ..           an answer about prices, with the marks that are left, meets the contract
 --   OneLowness           one answer about prices, with one list of marks, meets the contract
+--   table_of t s         what a text says of a sort
 --   Says m o ps n t      a text says the amounts, the prices, the money of each row, the worth and the count of pushes
+--   ReadsBack m o ps n   the text of an outcome is read, and says that
 --   ReadBack             what is published of an outcome and its prices is read as just that
 --
 -- Of two sides of an order, what is subtracted stands on the other side: naturals only.
@@ -59,7 +63,6 @@ LowestFound =
     (bs : List ℕ) (o : Outcome) (ps old new : List ℕ) → Published bs o ps → Lowest (market_of bs) ps →
     (market_of bs).zones ≤ length old → Left bs o ps old new → lowness_of bs o ps (length old) new ≡ Ok None
 
--- what stands in the slices of the entry
 abbrev pub outcome_left : Slices → Outcome
 outcome_left new = outcome_in new.bought new.sold new.flow
 
@@ -74,7 +77,6 @@ HouseLowest =
     (market_of bs).zones ≤ length marks → Left bs (outcome_left new) new.price marks after →
     lowness_of bs (outcome_left new) new.price (length marks) after ≡ Ok None
 
--- an answer about prices, with the marks that are left
 pub record Answers (bs : List ℕ) (o : Outcome) (ps old new : List ℕ) (r : Result (Option ℕ) Objection) : Type 0 where
   pub answer : r ≡ lowness_of bs o ps (length old) new
   pub left : Left bs o ps old new
@@ -84,7 +86,6 @@ OneLowness =
     (bs : List ℕ) (o : Outcome) (ps old new other : List ℕ) (r s : Result (Option ℕ) Objection) → Answers bs o ps old new r →
     Answers bs o ps old other s → (new ≡ other) × (r ≡ s)
 
--- what a text says of a sort
 abbrev pub table_of : Saying → Sort → Table
 table_of t sorts.Buy = t.buys
 table_of t sorts.Sell = t.sells

@@ -6,9 +6,13 @@
 --   after w bs        the text behind the word w
 --   digits l n bs     the number n goes on with the digits at the front, as far as there are; none above l
 --   number l bs       a number of at most l, with no zero in front
+--   largest, widest   the largest number of 64 bits, and the largest that stands with a sign
+--   below bs          a number with a minus in front of it, which was read; above bs one with none
+--   behind o f r      f of the text behind a word that stands there, and else r
 --   whole bs          a number with a sign: no plus, and no minus before 0
 --   digit bs          one digit
 --   hundredths bs     units, a point and two digits
+--   owed_price bs     a price below no money, whose minus was read; paid_price bs any other
 --   price bs          a price that is shown as money
 --   index k bs        the text behind the number k
 --
@@ -50,7 +54,6 @@ number limit [] = None
 number limit (b ∷ bs) =
     cond (b == 48) (Some (0, bs)) (cond (is_ascii_digit b) (digits limit (b - 48) bs) None)
 
--- the largest number of 64 bits, and the largest that stands with a sign
 abbrev pub largest : ℕ
 largest = 18_446_744_073_709_551_615
 
@@ -63,7 +66,6 @@ below bs = number widest bs then λ p. cond (p.0 == 0) None (Some (neg_ℤ (pos 
 abbrev pub above : List ℕ → Read ℤ
 above bs = number widest bs then λ p. Some (pos p.0, p.1)
 
--- f of the text behind a word that stands there, and else r
 abbrev pub behind : {A : Type 0} → Option (List ℕ) → (List ℕ → Read A) → Read A → Read A
 behind (Some rest) f r = f rest
 behind None f r = r

@@ -3,6 +3,7 @@
 --   place_word b     buy, sell or line of a broken rule, and zone where it is a zone
 --   broken_shown b   a broken rule by its number and its place: broken 21 buy 3
 --   figure_word f    the word before a number that does not follow: worth, pays, gets or earns
+--   lower_shown o    that prices are the lowest, or the first zone that could be lower
 --   wrong_shown w    a number that does not follow: wrong at line 4: pays -4996000, not -4996001
 --   report_shown r   a report in one or two lines
 --   stands_test r    whether a result is accepted, its prices are the lowest and all its rows follow

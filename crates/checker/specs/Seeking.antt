@@ -7,6 +7,7 @@
 --   sort_test               one of these, by sort
 --   holder                  the first buy, sell or line that holds the price of z up
 --   held_test               the price of z is 0, or something holds it up
+--   new_test                a zone has no mark, and is held up
 --   next_held               the first zone without a mark that is held up
 --   Wiped n old new         the first n numbers at 0, and the others as they were
 --   LeftIn                  what is left in the marks of an hour that is not refused

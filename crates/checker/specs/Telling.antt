@@ -5,6 +5,7 @@
 --   JudgedAs               a broken rule, or else a row that does not follow, or else that a result is accepted
 --   RowsAs, SaidAs         what is said of amounts, prices and the rows of a text; of all that a text says
 --   ReadAs                 the same of a text that may have a line that is not in the form
+--   ReportedAs             the same of an hour that may be refused
 --   Reports bs text r      r is what is said of the text for the hour that the bytes say: refused, unreadable, broken, a wrong
 --                          row, and only if none of these: accepted
 use Rattle.std.specs.Prelude.{◌≡◌, ℕ, List, Some, None, Ok, Err, Option, Result}

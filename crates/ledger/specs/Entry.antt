@@ -1,16 +1,18 @@
 -- What the entry on an hour's bytes answers, and what it leaves in six lent slices. Assumes nothing: these are definitions.
 --
---   slices_fault h ..       the first lent slice that is too short for an hour with the head h: bought, sold, flow, prices, ledger, work
+--   head_size h             how many buys, sells and lines an hour with the head h has
+--   slices_fault h ..       the first lent slice that is too short for such an hour: bought, sold, flow, prices, ledger, work
 --   hour_fault bs ..        the first rule that the bytes and the slices break, in the order of the rules
 --   CarriedOut r m ..       where the hour was cleared: amounts and flows keep all limits, and every zone is in balance
 --   SettledBy r m ..        the prices settle them
 --   LowestPrices r m ..     no list that settles any outcome of m that can be carried out is lower in any zone
 --   BestWorth r m ..        no outcome that can be carried out is worth more
---   NobodyRegrets r m .. no buyer, no seller and no line would rather have another amount
---   Counted r m ..          the count is that of the definition's pushes, each of which paid; there are no more than the value can rise
+--   NobodyRegrets r m ..    no buyer, no seller and no line would rather have another amount
+--   Counted r m ..          the count is that of the definition's pushes, each of which paid; there are no more than the value can
+--                           rise
 --   Booked r m ..           each row of the ledger, and each of its three sums
 --   Closed r m ..           what is collected is what is paid and what lines earn; no line earns less than nothing
---   Slices                  what the six slices hold
+--   Slices                  what the six slices hold; slices b s f p l w the six put together
 --   ClearedIn m n old new   what clearing m with n pushes leaves in them
 --   Answer bs old r new     what pins the answer r to bs and all numbers of slices that held old and hold new; a lent slice keeps
 --                         its length

@@ -1,8 +1,12 @@
 -- What the ledger promises, each a statement whose proof a contract of this crate asks for. Assumes nothing.
 --
+--   Evens m o ps   the sums of the ledger close, and no line earns less than nothing
 --   LedgerEven     what the buyers pay is what the sellers get and what the lines earn, and no line earns less than nothing
+--   Small m o ps   how large rows and sums are
 --   SumsSmall      no row is above 400,000,000,000 in size, and every sum is below 400,000,000,000,000
+--   WorthsSmall    how large the worth of an outcome is
 --   WorthSmall     what is bought, what is sold and the outcome is each worth at most 400,000,000,000,000 in size
+--   SameLedger     two lists agree in every row of a ledger, and are one if they have no more
 --   OneLedger      two ledgers of one outcome at the same prices agree in every row, and are one list if they have no more
 --   TextSays       the text of a ledger is the text of the outcome, with every money by its definition
 use Rattle.std.specs.Prelude.{◌≡◌, ℕ, ◌+◌, ◌<◌, ◌≤◌, List, length, pos, ◌+ℤ◌, ◌≤ℤ◌, unsigned_abs}

@@ -2,6 +2,7 @@
 --
 --   ClearedText m t     t is the text of what is found of the market m: a count of pushes, an outcome and prices with all that is
 --                       promised of them, and money that closes
+--   PublishedAs o m t   t is the row of the refusal o, or, where there is none, the text of the market m
 --   Published bs t      t is what is published of the bytes bs: the row of their refusal, or the text of the hour that they say
 use Rattle.std.specs.Prelude.{◌≡◌, ℕ, List, [], ◌∷◌, Some, None, Option}
 use Rattle.hour.specs.Bytes.{market_of, refusal_of}

@@ -3,11 +3,14 @@
 --   worth_row w n          what the outcome is worth, and how many pushes there were: worth 2000 pushes 2
 --   zone_row z p           a zone and its price as money: zone 0 price -499.80
 --   item_row w k x d       the k-th of a sort, which the words w name: its amount x and its money d, in hundredths:
---                       buy 0 has 100 pays -4996000
---   wording s              the words of a sort
+--                          buy 0 has 100 pays -4996000
+--   Wording                the words of such a row; wording s those of a sort
+--   zone_rows n ps         the rows of n zones, with prices in ps
 --   item_rows w n xs l i   n of them, with amounts in xs and money in the rows of the ledger l from i on
+--   Counts                 how many zones, buys, sells and lines there are
 --   text_of n ..           all rows: the worth, the zones, the buys, the sells and the lines, so many as n says
 --   counts_of m            how many of each a market has
+--   sort_rows m o ps s     the rows of a sort in words of the market
 --   result_of m o ps n     the same text in words of the market: each amount, each money, what the outcome is worth
 --
 -- A ledger has the two's complement of a money; the text has its decimal with a sign.
@@ -49,7 +52,6 @@ zone_rows n ps = rows n (λ z. zone_row z (at ps z))
 abbrev pub item_rows : Wording → ℕ → List ℕ → List ℕ → ℕ → List ℕ
 item_rows w n xs l i = rows n (λ k. item_row w k (at xs k) (to_z w64 (at l (i + k))))
 
--- how many of each there are
 pub record Counts : Type 0 where
   pub zones : ℕ
   pub buys : ℕ

@@ -1,7 +1,11 @@
--- What the entry on bytes promises as a whole. Each is a statement whose proof a contract of this crate asks for. Assumes nothing.
+-- What the entry on bytes promises as a whole. Each is a statement whose proof a contract of this crate asks for.
+-- Assumes nothing.
 --
+--   SameAnswer      two answers are the same, and so is what they leave in slices
 --   OneAnswer       two answers to the same bytes, with all numbers that they leave in slices, are the same
+--   Promise r m ..  the whole promise of the answer r to an hour that says the market m
 --   WholePromise    what is left of an hour that was cleared keeps the whole promise, from its bytes to its ledger
+--   Enough m ..     lengths of lent slices that are enough for a market
 --   AlwaysCleared   an hour that keeps the rules, with enough lent, is never refused
 --   OneText         what is published of bytes is one text
 use Rattle.std.specs.Prelude.{◌≡◌, ℕ, ◌+◌, ◌*◌, ◌≤◌, List, length, None, Result}
@@ -38,7 +42,6 @@ abbrev pub WholePromise : Type 0
 WholePromise =
     (bs : List ℕ) (old new : Slices) (r : Result ℕ Refusal) → Answer bs old r new → Promise r (market_of bs) new
 
--- lengths of lent slices that are enough for a market
 pub record Enough (m : Market) (has : Lengths) (ledger work : ℕ) : Type 0 where
   pub bought : length m.buys ≤ has.bought
   pub sold : length m.sells ≤ has.sold

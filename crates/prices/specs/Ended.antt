@@ -5,10 +5,12 @@
 --   Left r n old new     a slice that held old: as it was where the answer is a refusal, else as it was from number n on
 --   Wiped r n old new    the same, with zeros before number n
 --   ragged_fault n       a table of n numbers does not have three for each item
+--   Small ..             tables of no more bids and lines than an hour may have
 --   layout_fault ..      the first rule on the counts and lengths of tables that is broken
+--   lengths b s f p      how long four slices are: amounts bought and sold, flows and prices
 --   slices_fault ..      the first slice that is too short for them, of those that hold a result and of the work slice
---   tables_fault ..      the first rule that tables and lent slices break: zones, counts, the tables' lengths, the slices, then bid
---                        by bid and line by line, at the places of the written hour
+--   tables_fault ..      the first rule that tables and lent slices break: zones, counts, the tables' lengths, the slices, then
+--                        bid by bid and line by line, at the places of the written hour
 --
 -- Lent slices have numbers: bought 0, sold 1, flow 2, prices 3, and work 5, as where a ledger is lent too.
 use Rattle.std.specs.Prelude.{◌≡◌, ℕ, ◌+◌, ◌*◌, ◌%◌, ◌≤◌, not, List, ◌++◌, length, drop, replicate, Option, Result, Ok, Err, IfOk, ◌==◌}
@@ -39,7 +41,6 @@ Wiped (Err refusal) used old new = new ≡ old
 abbrev pub ragged_fault : ℕ → Option Refusal
 ragged_fault n = when (not (n % 3 == 0)) (Length n)
 
--- tables of no more bids and lines than an hour may have
 pub record Small (buys sells lines : List ℕ) : Type 0 where
   pub few_buys : items buys ≤ max_bids
   pub few_sells : items sells ≤ max_bids

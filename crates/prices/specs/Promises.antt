@@ -3,7 +3,9 @@
 --   FoundPromised    what is found can be carried out and is settled by its prices; no list that settles any outcome that can be
 --                    carried out is lower in any zone; no outcome that can be carried out is worth more; nobody would rather have
 --                    another amount; every push kept all that and raised the value, so that there are not many
+--   SomethingFound   a count, an outcome and prices that are found of a market
 --   AlwaysFound      for every proper market something is found
+--   SameFound        two counts, two outcomes and two lists of prices are the same
 --   OneFound         and it is one: the count, the outcome and the prices
 use Rattle.std.specs.Prelude.{◌≡◌, ℕ, List}
 use Rattle.hour.specs.Market.{Market, Outcome, Proper}
