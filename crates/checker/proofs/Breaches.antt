@@ -5,6 +5,13 @@ use Rattle.hour.specs.First.{first}
 use Rattle.hour.specs.Market.{Market, Outcome, Feasible, Settled, Content, at, bid, line}
 use Rattle.hour.specs.declared.refusals.Sort.{Sort}
 use Rattle.hour.proofs.First.{else_none, else_none_left, else_none_right, when_none, when_false, first_none, first_all}
+use Rattle.hour.specs.Seen.{market_seen}
+use Rattle.hour.specs.Rules.{max_amount}
+use Rattle.network.specs.Network.{Among, carried}
+use Rattle.network.specs.Given.{outcome_given}
+use Rattle.network.specs.declared.arcs.Item.{Item}
+use Rattle.ledger.proofs.Limits.{rules_of, carried_small}
+use Rattle.checker.specs.declared.standing.Standing.{Standing}
 use Rattle.checker.specs.Acceptance.{content_test, item_broken, buy_broken, sell_broken, line_broken, zone_broken, broken_of}
 
 -- the test tells whether an amount is content
@@ -87,3 +94,11 @@ module _ (m : Market) (o : Outcome) (ps : List ℕ) where
       ∙ (else_none _ _ (first_all _ (length m.sells) (λ k h. item_free _ k _ _ _ _ (f.sells k h) (s.sells k h)))
       ∙ (else_none _ _ (first_all _ (length m.lines) (λ k h. item_free _ k _ _ _ _ (f.lines k h) (s.lines k h)))
       ∙ first_all _ m.zones (λ z h. when_false _ _ (not_from_true _ (eq-eqb _ _ (f.balance z h))))))
+
+-- a claim that stands can be carried out
+pub feasible_standing : (s : Standing) → Feasible (market_seen s.claim.hour) (outcome_given s.claim.amounts)
+feasible_standing s = feasible_from_none _ _ s.claim.prices.now s.free
+
+pub carried_standing :
+    (s : Standing) (i : Item) → Among (market_seen s.claim.hour) i → carried (outcome_given s.claim.amounts) i ≤ max_amount
+carried_standing s i among = carried_small _ (rules_of s.claim.hour) _ (feasible_standing s) i among

@@ -54,6 +54,7 @@ fn check_figure(
 }
 
 impl Standing<'_> {
+    #[tactic(auto, using(crate::proofs::Breaches::carried_standing))]
     fn money_due(self, item: Item) -> i128
         requires { Among (market_seen self.claim.hour) item }
         ensures { result ≡ claimed money self.entry.claim item }
@@ -70,6 +71,7 @@ impl Standing<'_> {
         )
     }
 
+    #[tactic(auto, using(crate::proofs::Breaches::feasible_standing))]
     pub fn check_worth(self, written: i128) -> Result<(), Wrong>
         ensures { result_err result
             ≡ worth_wrong (market_seen self.entry.claim.hour) (outcome_given self.entry.claim.amounts) written }
