@@ -11,6 +11,7 @@ use hour::{Hour, ZERO_PRICE};
 use network::{Item, number_at};
 
 // So many units at one price less another.
+#[tactic(auto, using(crate::proofs::Product::product_fits, crate::proofs::Product::product_back))]
 fn owed(above: u64, base: u64, amount: u64) -> i64
     requires { (above ≤ max_price) × ((base ≤ max_price) × (amount ≤ max_amount)) }
     ensures { result ≡ owed above base amount }

@@ -13,6 +13,7 @@ use network::Item;
 
 impl Cleared<'_, '_, '_> {
     // The money of the k-th item of a sort.
+    #[tactic(auto, using(crate::proofs::Writing::money_kept))]
     fn row_money(self, sort: Sort, k: usize) -> i64
         requires { k < count_of (market_seen self.hour) sort }
         ensures value { result ≡ money_in self.entry (item sort k) }

@@ -49,6 +49,7 @@ fn item_row(
 
 // The rows of one sort, with their amounts, and their money in as many rows of the ledger. The money is read by number: over both
 // lists side by side it is not proved that the rows so far are those of the definition.
+#[tactic(auto, using(crate::proofs::Saying::item_added))]
 fn item_rows(
     text: &mut String,
     sort: Sort,

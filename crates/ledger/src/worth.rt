@@ -11,6 +11,7 @@ use hour::{Hour, Sort};
 use network::{Amounts, Item};
 
 // The k-th item of a sort at its own price.
+#[tactic(auto, using(crate::proofs::Limits::worth_fits, crate::proofs::Limits::rules_of))]
 fn item_worth(hour: Hour<'_>, o: Amounts<'_>, sort: Sort, k: usize) -> u64
     requires among { k < count_of (market_seen hour) sort }
     requires feasible { Feasible (market_seen hour) (outcome_given o) }
