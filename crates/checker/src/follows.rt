@@ -26,6 +26,7 @@ fn money_at(moneys: &[i128], k: usize) -> i128
 }
 
 // So many units at one price less another. Prices may be any numbers of 64 bits here, so money wants more bits than the ledger's.
+#[tactic(auto, using(crate::proofs::Product::product_fits, crate::proofs::Product::product_back))]
 fn owed(above: u64, base: u64, amount: u64) -> i128
     requires { amount ≤ max_amount }
     ensures { result ≡ owed above base amount }
