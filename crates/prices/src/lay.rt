@@ -7,8 +7,8 @@ ghost use Rattle.prices.specs.Laid.{Laid, bid_numbers, line_numbers};
 
 use hour::{Bid, Hour};
 
-// So many rows of a table, each as `row` says. By number: of the rows that `as_chunks_mut` or `chunks_exact_mut` lends, the library does not
-// say that the table becomes what was written to them.
+// So many rows of a table, each as `row` says. By number: of the rows that `as_chunks_mut` or `chunks_exact_mut` lends, the library
+// does not say that the table becomes what was written to them.
 fn lay<F: Fn(usize) -> [u64; 3]>(table: &mut [u64], count: usize, row: F)
     requires long { length table.old ≡ 3 * count }
     requires rows { (k : ℕ) → k < count → F.pre row k }

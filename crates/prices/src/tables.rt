@@ -11,8 +11,8 @@ use circulation::circulate;
 use network::{Tables, row_count};
 use paths::Way;
 
-// As many zones as an hour may have: `max_zones` of the hour's rules. The constant of that limit is hour's own; if this one were less, the
-// slice of the room below would not be proved.
+// As many zones as an hour may have: `max_zones` of the hour's rules. The constant of that limit is hour's own; if this one were less,
+// the slice of the room below would not be proved.
 const ZONES_ROOM: usize = 32;
 
 // By number: over prices and ways side by side it is not proved what the prices become.
