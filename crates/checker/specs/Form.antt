@@ -1,6 +1,7 @@
 -- The form of a published text, row by row. Assumes nothing: these are definitions.
 --
---   Phrasing              what stands around the numbers in a row; phrasing s in a row of a sort; phrased the same where the code has it
+--   Phrasing              what stands around the numbers in a row; phrasing s in a row of a sort; phrased w the same where the
+--                         code has it
 --   worth_at bs           the row of the worth: the worth and the count of pushes
 --   zone_at z bs          the row of zone z: its price
 --   row_at w k bs         a row with such words: its number k, its amount and its money
@@ -16,7 +17,8 @@
 --   Saying                all that a text says; saying puts it together
 --   worth_line            the row of the worth, or the first line
 --   ended l bs x          x where nothing stands behind the last row, else line l
---   rows_of n s           how many rows a sort has; first_line n s the line at which they begin; last_line n the one behind all rows
+--   rows_of n s           how many rows a sort has; first_line n s the line at which they begin; last_line n the one behind all
+--                         rows
 --   text_at n bs          what a text for so many zones, buys, sells and lines says; or its first line that is not in the form
 --   prices_seen, table_seen, said_seen
 --                         the same where the code has them

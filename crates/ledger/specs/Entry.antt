@@ -8,8 +8,8 @@
 --   LowestPrices r m ..     no list that settles any outcome of m that can be carried out is lower in any zone
 --   BestWorth r m ..        no outcome that can be carried out is worth more
 --   NobodyRegrets r m ..    no buyer, no seller and no line would rather have another amount
---   Counted r m ..          the count is that of the definition's pushes, each of which paid; there are no more than the value can
---                           rise
+--   Counted r m ..          the count is that of the definition's pushes, each of which paid; there are no more than the value
+--                           can rise
 --   Booked r m ..           each row of the ledger, and each of its three sums
 --   Closed r m ..           what is collected is what is paid and what lines earn; no line earns less than nothing
 --   Slices                  what the six slices hold; slices b s f p l w the six put together
