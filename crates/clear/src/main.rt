@@ -4,16 +4,15 @@
 use hour::{
     Fault, arguments, one_named, read_file, read_standard_input, status, tell, write_answer,
 };
-use prices::published_text;
+use ledger::published;
 use std::process::ExitCode;
 
-// The same few lines as in `clear_ledger`: what a file gives no clause can say, so one function for both would have no contract.
 fn run(rt: &HostRuntime) -> Result<(), Fault> {
     let bytes = match one_named(arguments(rt)?)? {
         Some(name) => read_file(rt, name)?,
         None => read_standard_input(rt)?,
     };
-    let text = published_text(rt.alloc(), bytes.as_slice())?;
+    let text = published(rt.alloc(), bytes.as_slice())?;
     write_answer(rt, text.as_str())
 }
 

@@ -2,8 +2,8 @@
 --
 --   bid_numbers b   the numbers of a bid, in the order of a table; line_numbers the same of a line
 --   Laid t k r      the three numbers of item k of the table t are those of r
---   Rowed           how long lent tables are; nothing m the outcome with nothing in it
-use Rattle.std.specs.Prelude.{◌≡◌, ℕ, ◌*◌, List, [], ◌∷◌, length, get_or, replicate}
+--   nothing m       the outcome with nothing in it
+use Rattle.std.specs.Prelude.{◌≡◌, ℕ, List, [], ◌∷◌, length, get_or, replicate}
 use Rattle.hour.specs.Market.{Market, Outcome}
 use Rattle.hour.specs.declared.items.Bid.{Bid}
 use Rattle.hour.specs.declared.items.Line.{Line}
@@ -21,15 +21,6 @@ pub record Laid (t : List ℕ) (k : ℕ) (r : List ℕ) : Type 0 where
   pub first : cell t k 0 ≡ get_or r 0 0
   pub second : cell t k 1 ≡ get_or r 1 0
   pub third : cell t k 2 ≡ get_or r 2 0
-
--- tables of three numbers to each bid and line, and a number for each
-pub record Rowed (nb ns nl : ℕ) (buys sells lines bought sold flow : List ℕ) : Type 0 where
-  pub buys_long : length buys ≡ 3 * nb
-  pub sells_long : length sells ≡ 3 * ns
-  pub lines_long : length lines ≡ 3 * nl
-  pub bought_long : length bought ≡ nb
-  pub sold_long : length sold ≡ ns
-  pub flow_long : length flow ≡ nl
 
 -- nothing is bought, sold or carried
 abbrev pub nothing : Market → Outcome

@@ -1,15 +1,21 @@
-// Sample hours: what is listed of the refused and of the worked ones, what the worked and the odd ones come to, the counts of hours at the limits, and
-// whether each hour is written back as it was read.
+// Sample hours: the refusals of those that break a rule, what the worked and the odd ones say and come to, and whether their sums
+// close; hours at the limits, the largest sums, and slices that are too short.
 #![tactic(auto)]
 
 mod copies;
+mod lending;
 mod limits;
+mod samples;
+mod sums;
 
 use crate::copies::written_back;
+use crate::lending::{closing_word, one_short};
 use crate::limits::{Counts, hour_of};
+use crate::samples::{ODD, REFUSED, WORKED, sample};
+use crate::sums::largest_hour;
 use hour::{Fault, Hour, listing, status, tell, write_answer};
-use prices::published_text;
-use samples::{ODD, WORKED, sample, tell_refused};
+use ledger::published;
+use lent::Slice;
 use std::alloc::{AllocError, Global};
 use std::process::ExitCode;
 
@@ -52,6 +58,9 @@ const LIMITS: [Counts; 6] = [
     },
 ];
 
+// Buys and sells of the largest hours: all are served at the lowest price, or one buy too many holds the highest.
+const LARGEST: [(usize, usize); 2] = [(1_000, 1_000), (1_000, 999)];
+
 fn copy_word(written_back: bool) -> &'static str {
     if written_back {
         "written back"
@@ -60,27 +69,38 @@ fn copy_word(written_back: bool) -> &'static str {
     }
 }
 
-fn worked_hours(rt: &HostRuntime) -> Result<(), Fault> {
+// What is published of each hour that breaks a rule, and whether its listing is another.
+fn refused_hours(rt: &HostRuntime) -> Result<(), Fault> {
     let heap = rt.alloc();
-    for name in WORKED {
-        let bytes = sample(rt, "worked", name)?;
-        let text = listing(heap, bytes.as_slice())?;
-        let copied = copy_word(written_back(heap, bytes.as_slice())?);
-        let result = published_text(heap, bytes.as_slice())?;
-        write_answer(
-            rt,
-            format!(in heap; "worked {name}\n{text}{copied}\n{result}")?.as_str(),
-        )?;
+    for n in 0..REFUSED {
+        let name = format!(in heap; "{n:03}")?;
+        let bytes = sample(rt, "refused", name.as_str())?;
+        let told = published(heap, bytes.as_slice())?;
+        let listed = listing(heap, bytes.as_slice())?;
+        write_answer(rt, format!(in heap; "{name} {told}")?.as_str())?;
+        if listed.as_str() != told.as_str() {
+            write_answer(
+                rt,
+                format!(in heap; "{name} is listed as {listed}")?.as_str(),
+            )?;
+        }
     }
     Ok(())
 }
 
-fn odd_hours(rt: &HostRuntime) -> Result<(), Fault> {
+// What sample hours of one kind say and come to, whether they are written back as they were read, and whether their sums close.
+fn sample_hours(rt: &HostRuntime, kind: &str, names: &[&str]) -> Result<(), Fault> {
     let heap = rt.alloc();
-    for name in ODD {
-        let bytes = sample(rt, "odd", name)?;
-        let result = published_text(heap, bytes.as_slice())?;
-        write_answer(rt, format!(in heap; "odd {name}\n{result}")?.as_str())?;
+    for name in names {
+        let bytes = sample(rt, kind, name)?;
+        let listed = listing(heap, bytes.as_slice())?;
+        let copied = copy_word(written_back(heap, bytes.as_slice())?);
+        let result = published(heap, bytes.as_slice())?;
+        let closes = closing_word(heap, bytes.as_slice())?;
+        write_answer(
+            rt,
+            format!(in heap; "{kind} {name}\n{listed}{copied}\n{result}{closes}\n")?.as_str(),
+        )?;
     }
     Ok(())
 }
@@ -104,16 +124,51 @@ fn hours_at_limits(rt: &HostRuntime) -> Result<(), Fault> {
         let bytes = hour_of(heap, counts)?;
         let text = counts_read(heap, bytes.as_slice())?;
         let copied = copy_word(written_back(heap, bytes.as_slice())?);
-        write_answer(rt, format!(in heap; "{text}{copied}\n")?.as_str())?;
+        let closes = closing_word(heap, bytes.as_slice())?;
+        write_answer(rt, format!(in heap; "{text}{copied}\n{closes}\n")?.as_str())?;
+    }
+    Ok(())
+}
+
+// Only the first two rows of what is published, the worth and the price: the others are thousands.
+fn largest_hours(rt: &HostRuntime) -> Result<(), Fault> {
+    let heap = rt.alloc();
+    for (buys, sells) in LARGEST {
+        let bytes = largest_hour(heap, buys, sells)?;
+        let text = published(heap, bytes.as_slice())?;
+        let closes = closing_word(heap, bytes.as_slice())?;
+        write_answer(
+            rt,
+            format!(in heap; "buys {buys} sells {sells}\n")?.as_str(),
+        )?;
+        for row in text.as_str().lines().take(2) {
+            write_answer(rt, format!(in heap; "{row}\n")?.as_str())?;
+        }
+        write_answer(rt, format!(in heap; "{closes}\n")?.as_str())?;
+    }
+    Ok(())
+}
+
+fn short_slices(rt: &HostRuntime) -> Result<(), Fault> {
+    let heap = rt.alloc();
+    let bytes = sample(rt, "worked", "E")?;
+    for (number, slice) in Slice::ALL.iter().enumerate() {
+        let said = one_short(heap, bytes.as_slice(), *slice)?;
+        write_answer(
+            rt,
+            format!(in heap; "slice {number} short {said}")?.as_str(),
+        )?;
     }
     Ok(())
 }
 
 fn run(rt: &HostRuntime) -> Result<(), Fault> {
-    tell_refused(rt, |heap, bytes| listing(heap, bytes))?;
-    worked_hours(rt)?;
-    odd_hours(rt)?;
-    hours_at_limits(rt)
+    refused_hours(rt)?;
+    sample_hours(rt, "worked", &WORKED)?;
+    sample_hours(rt, "odd", &ODD)?;
+    hours_at_limits(rt)?;
+    largest_hours(rt)?;
+    short_slices(rt)
 }
 
 fn main(rt: HostRuntime) -> ExitCode {
