@@ -87,6 +87,36 @@ impl Slices<usize> {
 }
 
 impl Slices<Vec<u64>> {
+    fn of(&self, slice: Slice) -> &[u64] {
+        match slice {
+            Slice::Bought => self.bought.as_slice(),
+            Slice::Sold => self.sold.as_slice(),
+            Slice::Flow => self.flow.as_slice(),
+            Slice::Price => self.price.as_slice(),
+            Slice::Ledger => self.ledger.as_slice(),
+            Slice::Work => self.work.as_slice(),
+        }
+    }
+
+    // How long a slice is.
+    pub fn len(&self, slice: Slice) -> usize {
+        self.of(slice).len()
+    }
+
+    // Number k of a slice, or 0 behind its end.
+    pub fn number(&self, slice: Slice, k: usize) -> u64 {
+        self.of(slice).get(k).copied().unwrap_or(0)
+    }
+
+    // Another number in its place, where there is one. Answers what stood there.
+    pub fn put(&mut self, slice: Slice, k: usize, number: u64) -> u64 {
+        let before = self.number(slice, k);
+        if let Some(place) = self.get_mut(slice).as_mut_slice().get_mut(k) {
+            *place = number;
+        }
+        before
+    }
+
     pub fn new(heap: Global, sizes: Sizes) -> Result<Lent, AllocError> {
         Ok(Slices {
             bought: vec![in heap; MARK; sizes.bought]?,

@@ -2,17 +2,20 @@
 // close; hours at the limits, the largest sums, and slices that are too short.
 #![tactic(auto)]
 
+mod changed;
 mod copies;
 mod lending;
 mod limits;
 mod samples;
 mod sums;
 
+use crate::changed::changed_by_one;
 use crate::copies::written_back;
 use crate::lending::{closing_word, one_short};
 use crate::limits::{Counts, hour_of};
 use crate::samples::{ODD, REFUSED, WORKED, sample};
 use crate::sums::largest_hour;
+use checker::report_on;
 use hour::{Fault, Hour, listing, status, tell, write_answer};
 use ledger::published;
 use lent::Slice;
@@ -88,7 +91,8 @@ fn refused_hours(rt: &HostRuntime) -> Result<(), Fault> {
     Ok(())
 }
 
-// What sample hours of one kind say and come to, whether they are written back as they were read, and whether their sums close.
+// What sample hours of one kind say and come to, whether they are written back as they were read, and whether their sums close; what the
+// checker says of what is published, and of results that differ from it by one unit.
 fn sample_hours(rt: &HostRuntime, kind: &str, names: &[&str]) -> Result<(), Fault> {
     let heap = rt.alloc();
     for name in names {
@@ -97,9 +101,13 @@ fn sample_hours(rt: &HostRuntime, kind: &str, names: &[&str]) -> Result<(), Faul
         let copied = copy_word(written_back(heap, bytes.as_slice())?);
         let result = published(heap, bytes.as_slice())?;
         let closes = closing_word(heap, bytes.as_slice())?;
+        let report = report_on(heap, bytes.as_slice(), result.as_str().as_bytes())?;
+        let changed = changed_by_one(heap, bytes.as_slice())?;
         write_answer(
             rt,
-            format!(in heap; "{kind} {name}\n{listed}{copied}\n{result}{closes}\n")?.as_str(),
+            format!(in heap;
+                "{kind} {name}\n{listed}{copied}\n{result}{closes}\n{report}\n{changed}\n"
+            )?.as_str(),
         )?;
     }
     Ok(())
