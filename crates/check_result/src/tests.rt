@@ -1,5 +1,6 @@
 // Results of small hours: what stands, the first rule broken, whether prices could be lower, and what is said of texts.
-use checker::{Objection, check, lowest, report_on};
+use checker::{Broken, Objection, check, lowest, report_on};
+use hour::Sort;
 use std::process::Abort;
 use std::test::Fail;
 
@@ -128,6 +129,91 @@ const FIVE_ITEMS: [u8; 38] = [
     2, 1, 0, 2, 0, 2, 0, 1, 50, 0, 0, 100, 0, 0, 0, 20, 0, 0, 80, 0, 0, 1, 40, 0, 0, 60, 0, 0, 0,
     1, 50, 0, 0, 1, 0, 50, 0, 0,
 ];
+
+// Prices 20 and 40, 100 bought, 50 and 50 sold and 50 carried are what is published of these; each rule is broken at the first and at
+// the last item of each sort.
+fn five(
+    bought: [u64; 1],
+    sold: [u64; 2],
+    flow: [u64; 2],
+    prices: [u64; 2],
+) -> Result<(), Objection> {
+    check(&FIVE_ITEMS, &bought, &sold, &flow, &prices)
+}
+
+#[test]
+fn an_amount_too_large_is_named_by_its_sort_and_number(rt: HostRuntime) {
+    let large = |sort, number| Err(Objection::Broken(Broken::TooLarge { sort, number }));
+    assert_eq!(rt;
+        five([101], [50, 50], [50, 0], [20, 40]),
+        large(Sort::Buy, 0)
+    );
+    assert_eq!(rt;
+        five([100], [81, 50], [50, 0], [20, 40]),
+        large(Sort::Sell, 0)
+    );
+    assert_eq!(rt;
+        five([100], [50, 61], [50, 0], [20, 40]),
+        large(Sort::Sell, 1)
+    );
+    assert_eq!(rt;
+        five([100], [50, 50], [51, 0], [20, 40]),
+        large(Sort::Line, 0)
+    );
+    assert_eq!(rt;
+        five([100], [50, 50], [50, 51], [20, 40]),
+        large(Sort::Line, 1)
+    );
+}
+
+#[test]
+fn an_amount_that_the_prices_do_not_allow_is_named(rt: HostRuntime) {
+    let barred = |sort, number| Err(Objection::Broken(Broken::NotAllowed { sort, number }));
+    assert_eq!(rt;
+        five([99], [50, 50], [50, 0], [20, 40]),
+        barred(Sort::Buy, 0)
+    );
+    assert_eq!(rt;
+        five([100], [50, 50], [50, 0], [30, 40]),
+        barred(Sort::Sell, 0)
+    );
+    assert_eq!(rt;
+        five([100], [50, 50], [50, 0], [20, 50]),
+        barred(Sort::Sell, 1)
+    );
+    assert_eq!(rt;
+        five([100], [50, 50], [49, 0], [20, 40]),
+        barred(Sort::Line, 0)
+    );
+    assert_eq!(rt;
+        five([100], [50, 50], [50, 1], [20, 40]),
+        barred(Sort::Line, 1)
+    );
+}
+
+#[test]
+fn a_zone_out_of_balance_is_named(rt: HostRuntime) {
+    let uneven = |zone| Err(Objection::Broken(Broken::Unbalanced { zone }));
+    assert_eq!(rt; five([100], [51, 50], [50, 0], [20, 40]), uneven(0));
+    assert_eq!(rt; five([100], [50, 51], [50, 0], [20, 40]), uneven(1));
+    assert_eq!(rt; five([100], [50, 50], [50, 0], [20, 40]), Ok(()));
+}
+
+#[test]
+fn an_empty_hour_has_the_price_0(rt: HostRuntime) {
+    let empty: [u8; 7] = [2, 0, 0, 0, 0, 0, 0];
+    let mut marks: [u64; 2] = [7, 7];
+    assert_eq!(rt;
+        lowest(&empty, &[], &[], &[], &[0, 0], &mut marks),
+        Ok(None)
+    );
+    assert_eq!(rt;
+        lowest(&empty, &[], &[], &[], &[0, 1], &mut marks),
+        Ok(Some(1))
+    );
+    assert_eq!(rt; marks[0], 1);
+    assert_eq!(rt; marks[1], 0);
+}
 
 fn says(
     rt: &(impl Abort + AllocGlobal),
