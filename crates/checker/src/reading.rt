@@ -4,9 +4,13 @@ ghost use Rattle.std.specs.Prelude.{◌≡◌, ◌^◌, ◌<◌, ◌≤◌, Matc
 ghost use Rattle.checker.specs.Reading.{seen, rest_seen, after, digits, number, below, above, whole, index, digit};
 ghost use Rattle.checker.specs.Reading.{hundredths, owed_price, paid_price, price, largest, widest};
 
+use hour::ZERO_PRICE;
+
 const LARGEST: u128 = u64::MAX as u128;
 
 const WIDEST: u128 = i128::MAX as u128;
+
+const NO_MONEY: u128 = ZERO_PRICE as u128;
 
 // The text behind a word.
 pub fn after<'a>(word: &str, bytes: &'a [u8]) -> Option<&'a [u8]>
@@ -129,8 +133,8 @@ fn owed_price<'a>(bytes: &'a [u8]) -> Option<(u64, &'a [u8])>
     if money == 0 {
         return None;
     }
-    if money <= 50_000 {
-        Some(((50_000 - money) as u64, rest))
+    if money <= NO_MONEY {
+        Some(((NO_MONEY - money) as u64, rest))
     } else {
         None
     }
@@ -140,8 +144,8 @@ fn paid_price<'a>(bytes: &'a [u8]) -> Option<(u64, &'a [u8])>
     ensures { seen result ≡ paid_price bytes.now }
 {
     let (money, rest) = hundredths(bytes)?;
-    if 50_000 + money <= LARGEST {
-        Some(((50_000 + money) as u64, rest))
+    if NO_MONEY + money <= LARGEST {
+        Some(((NO_MONEY + money) as u64, rest))
     } else {
         None
     }
