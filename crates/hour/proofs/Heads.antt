@@ -12,7 +12,7 @@ use Rattle.hour.specs.Rules.{item_fault, max_zones, max_bids, max_lines, bids_fa
 use Rattle.hour.specs.Rules.{line_fault, bid_place, line_place, zones_fault, count_fault}
 use Rattle.hour.specs.declared.refusals.Sort.TheVariants as sorts
 use Rattle.hour.specs.Bytes.{byte, two, size_said, head_fault, head_of, head_read, bids_read, lines_read, bids_said}
-use Rattle.hour.specs.Bytes.{lines_said, bid_at, line_at, in_first, items_read, market_of, refusal_of}
+use Rattle.hour.specs.Bytes.{lines_said, bid_at, line_at, in_first, items_read, market_of}
 use Rattle.hour.proofs.First.{first_same, else_none, else_none_left, else_none_right, when_none, when_false}
 
 cond_same : {A : Type 0} (b : Bool) (x : A) → cond b x x ≡ x
@@ -121,7 +121,3 @@ items_said bs =
 
 pub items_stand : (bs : List ℕ) (h : Head) → head_read bs ≡ Ok h → items_read bs h ≡ item_fault (market_of bs)
 items_stand bs h ok = ap (items_read bs) (head_read_ok bs h ok).1 ∙ items_said bs
-
--- a refused head refuses the hour, and a sound one leaves it to the items
-pub refusal_by_head : (bs : List ℕ) (e : Refusal) → head_read bs ≡ Err e → Some e ≡ refusal_of bs
-refusal_by_head bs e err = ap (λ (o : Option Refusal). o else item_fault (market_of bs)) (sym (head_read_err bs e err))

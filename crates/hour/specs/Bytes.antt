@@ -9,6 +9,7 @@
 --   in_first n bs f    f, what is wrong with the first n bytes, looked at only where they have come
 --   head_fault bs      the first fault of the head and the length: zones, counts, length
 --   head_of bs         the counts that the head says; head_read bs these, or the head's refusal
+--   needed_by h        how long slices have to be that hold the result of an hour with the head h
 --   bids_read, lines_read    the first rule that one of so many bids or lines breaks, read where they stand
 --   items_read bs h    the same of all that the counts h ask for: buys, sells, lines
 --   refusal_of bs      the first rule that the bytes break, or nothing
@@ -31,6 +32,7 @@ use Rattle.hour.specs.declared.reading.Head.{Head}
 use Rattle.hour.specs.declared.refusals.Refusal.{Refusal}
 use Rattle.hour.specs.declared.refusals.Refusal.TheVariants.{Length}
 use Rattle.hour.specs.declared.refusals.Sort.TheVariants as sorts
+use Rattle.hour.specs.declared.rules.Lengths.{Lengths}
 
 abbrev pub byte : List ℕ → ℕ → ℕ
 byte bs i = slice_index bs i
@@ -81,6 +83,9 @@ head_of bs = record { zones = byte bs 0; buys = two bs 1; sells = two bs 3; line
 
 abbrev pub head_read : List ℕ → Result Head Refusal
 head_read bs = elim (head_fault bs) [ Some refusal ↦ Err refusal | None ↦ Ok (head_of bs) ]
+
+abbrev pub needed_by : Head → Lengths
+needed_by h = record { bought = h.buys; sold = h.sells; flow = h.lines; prices = h.zones }
 
 abbrev pub bids_read : ℕ → List ℕ → ℕ → ℕ → Option Refusal
 bids_read z bs before count = first count (λ k. bid_fault z (bid_place (before + k)) (bid_at bs (bid_place (before + k))))

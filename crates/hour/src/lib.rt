@@ -25,7 +25,9 @@ pub use items::{Bid, Line};
 pub use money::{Hundredths, Price, ZERO_PRICE};
 pub use reading::{Head, check_items, read_head, refusal};
 pub use refusals::{Refusal, Sort};
-pub use rules::{Lengths, check_bid, check_counts, check_lent, check_line, check_results};
+pub use rules::{
+    Lengths, MAX_ZONES, check_bid, check_counts, check_lent, check_line, check_results,
+};
 pub use text::listing;
 pub use view::Hour;
 pub use writing::write;

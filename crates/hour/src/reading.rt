@@ -3,13 +3,13 @@ ghost use Rattle.std.specs.Prelude.{◌≡◌, ◌+◌, ◌<◌, ◌≤◌, leng
 ghost use Rattle.std.specs.Result.{result_err};
 ghost use Rattle.hour.specs.First.{first};
 ghost use Rattle.hour.specs.Rules.{item_fault};
-ghost use Rattle.hour.specs.Bytes.{two, head_read, market_of, refusal_of};
+ghost use Rattle.hour.specs.Bytes.{two, head_read, needed_by, market_of, refusal_of};
 
 use crate::bytes::two_bytes;
 use crate::entries::Entry;
 use crate::items::{Bid, Line};
 use crate::refusals::{Refusal, Sort};
-use crate::rules::{check_count, check_zones};
+use crate::rules::{Lengths, check_count, check_zones};
 
 // The counts of an hour, as its first seven bytes say.
 #[derive(Clone, Copy, Debug, PartialEq, Eq)]
@@ -18,6 +18,20 @@ pub struct Head {
     pub buys: u64,
     pub sells: u64,
     pub lines: u64,
+}
+
+// How long slices have to be that hold the result of an hour with this head.
+impl From<Head> for Lengths {
+    ghost from_gives = { λ head lengths. lengths ≡ needed_by head };
+
+    fn from(head: Head) -> Lengths {
+        Lengths {
+            bought: head.buys as usize,
+            sold: head.sells as usize,
+            flow: head.lines as usize,
+            prices: head.zones as usize,
+        }
+    }
 }
 
 // The count in the two bytes from `i` on, or nothing where the bytes end before.
@@ -89,7 +103,7 @@ pub fn check_bytes(bytes: &[u8]) -> Result<(), Refusal>
     check_items(bytes, head)
 }
 
-// The same, or nothing: then they are an hour. For callers that only show the refusal.
+// The same, or nothing: then they are an hour. It is public as it stands, and its callers show a refusal where there is one.
 pub fn refusal(bytes: &[u8]) -> Option<Refusal>
     ensures { result ≡ refusal_of bytes.now }
 {
