@@ -1,13 +1,18 @@
-// What a trial lends to clearing: six slices filled with one number, so that whatever is written into them shows; and whether the
-// sums of a ledger close.
+// What a trial lends to clearing: six slices filled with one number, so that whatever is written into them shows; whether the sums of
+// a ledger close; and an hour as its bytes.
 #![tactic(auto)]
 
-use hour::{Head, Refusal};
+ghost use Rattle.std.specs.Prelude.{◌≡◌, IfOk};
+ghost use Rattle.hour.specs.Books.{market_in, size_of};
+ghost use Rattle.hour.specs.Bytes.{bytes_of};
+ghost use Rattle.hour.specs.Rules.{KeepsRules};
+
+use hour::{Book, Head, Lengths, Refusal, write};
 use ledger::clear;
 use std::alloc::{AllocError, Global};
 
 // No amount, price or money of an hour is so large.
-const MARK: u64 = 0xa5a5_a5a5_a5a5_a5a5;
+pub const MARK: u64 = 0xa5a5_a5a5_a5a5_a5a5;
 
 // The six slices, in the order in which they are lent.
 #[derive(Clone, Copy)]
@@ -29,6 +34,9 @@ impl Slice {
         Slice::Ledger,
         Slice::Work,
     ];
+
+    // Those that make a result.
+    pub const RESULT: [Slice; 4] = [Slice::Bought, Slice::Sold, Slice::Flow, Slice::Price];
 }
 
 // Something of each of the six.
@@ -64,17 +72,20 @@ pub type Lent = Slices<Vec<u64>>;
 impl Slices<usize> {
     // Just long enough for an hour with this head.
     pub fn for_head(head: Head) -> Sizes {
-        let items = head
-            .buys
-            .saturating_add(head.sells)
-            .saturating_add(head.lines);
+        let Lengths {
+            bought,
+            sold,
+            flow,
+            prices,
+        } = Lengths::from(head);
+        let items = bought.saturating_add(sold).saturating_add(flow);
         Slices {
-            bought: head.buys as usize,
-            sold: head.sells as usize,
-            flow: head.lines as usize,
-            price: head.zones as usize,
-            ledger: items.saturating_add(3) as usize,
-            work: items.saturating_mul(64) as usize,
+            bought,
+            sold,
+            flow,
+            price: prices,
+            ledger: items.saturating_add(3),
+            work: items.saturating_mul(64),
         }
     }
 
@@ -84,10 +95,19 @@ impl Slices<usize> {
         *size = size.saturating_sub(1);
         self
     }
+
+    // The same with each of the slices longer by one number.
+    pub fn one_longer(mut self) -> Sizes {
+        for slice in Slice::ALL {
+            let size = self.get_mut(slice);
+            *size = size.saturating_add(1);
+        }
+        self
+    }
 }
 
 impl Slices<Vec<u64>> {
-    fn of(&self, slice: Slice) -> &[u64] {
+    pub fn of(&self, slice: Slice) -> &[u64] {
         match slice {
             Slice::Bought => self.bought.as_slice(),
             Slice::Sold => self.sold.as_slice(),
@@ -184,4 +204,20 @@ fn sum_of_rows(ledger: &[u64], from: usize, count: usize) -> i64 {
         .skip(from)
         .take(count)
         .fold(0i64, |sum, money| sum.wrapping_add(money.cast_signed()))
+}
+
+// How many bytes an hour has.
+fn size_of(book: Book<'_>) -> usize
+    ensures { result ≡ size_of (market_in book.entry) }
+{
+    7 + 7 * (book.buys.len() + book.sells.len()) + 5 * book.lines.len()
+}
+
+// The bytes of an hour, in a vector of the right size. They are zeros, which are refused, where it breaks a rule.
+pub fn written(heap: Global, book: Book<'_>) -> Result<Vec<u8>, AllocError>
+    ensures { IfOk result (λ bytes. KeepsRules (market_in book.entry) → bytes.items ≡ bytes_of (market_in book.entry)) }
+{
+    let mut bytes = vec![in heap; 0u8; size_of(book)]?;
+    let _ = write(book, bytes.as_mut_slice());
+    Ok(bytes)
 }

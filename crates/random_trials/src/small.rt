@@ -1,6 +1,7 @@
 // Small hours, drawn, and as bytes.
 use crate::draws::Draws;
-use hour::{Bid, Book, Head, Line, write};
+use hour::{Bid, Book, Head, Line};
+use lent::written;
 use std::alloc::{AllocError, Global};
 
 const MOST_ZONES: u64 = 3;
@@ -67,17 +68,7 @@ impl Small {
         Ok(small)
     }
 
-    // The counts of the hour.
-    pub fn head(&self) -> Head {
-        Head {
-            zones: self.zones,
-            buys: self.buys.len() as u64,
-            sells: self.sells.len() as u64,
-            lines: self.lines.len() as u64,
-        }
-    }
-
-    // The hour as its bytes. One that breaks a rule would be zeros, and refused.
+    // The hour as its bytes.
     pub fn bytes(&self, heap: Global) -> Result<Vec<u8>, AllocError> {
         let book = Book {
             zones: self.zones,
@@ -85,13 +76,18 @@ impl Small {
             sells: self.sells.as_slice(),
             lines: self.lines.as_slice(),
         };
-        let bids = self.buys.len().saturating_add(self.sells.len());
-        let size = bids
-            .saturating_mul(7)
-            .saturating_add(self.lines.len().saturating_mul(5))
-            .saturating_add(7);
-        let mut bytes = vec![in heap; 0u8; size]?;
-        let _ = write(book, bytes.as_mut_slice());
-        Ok(bytes)
+        written(heap, book)
+    }
+}
+
+// The counts of the hour.
+impl From<&Small> for Head {
+    fn from(small: &Small) -> Head {
+        Head {
+            zones: small.zones,
+            buys: small.buys.len() as u64,
+            sells: small.sells.len() as u64,
+            lines: small.lines.len() as u64,
+        }
     }
 }

@@ -1,7 +1,7 @@
 // Byte strings that are hardly hours: each is refused or cleared, and where it is refused no number of the lent slices changes.
 use crate::draws::Draws;
 use crate::small::Small;
-use hour::read_head;
+use hour::{Head, read_head};
 use lent::{Lent, Sizes, Slice};
 use std::alloc::{AllocError, Global};
 use std::fmt;
@@ -65,7 +65,7 @@ fn drawn_string(heap: Global, draws: &mut Draws, small: &Small) -> Result<Vec<u8
 
 // Slices for what the string says, or for the hour that it was made of where it says nothing; one time in four one is too short.
 fn drawn_sizes(draws: &mut Draws, small: &Small, bytes: &[u8]) -> Sizes {
-    let sizes = Sizes::for_head(read_head(bytes).unwrap_or(small.head()));
+    let sizes = Sizes::for_head(read_head(bytes).unwrap_or(Head::from(small)));
     match draws.one_of(&Slice::ALL) {
         Some(slice) if draws.below(4) == 0 => sizes.one_short(slice),
         _ => sizes,

@@ -5,9 +5,6 @@ use lent::{Lent, Sizes, Slice};
 use std::alloc::{AllocError, Global};
 use std::fmt;
 
-// The slices that make a result.
-const RESULT: [Slice; 4] = [Slice::Bought, Slice::Sold, Slice::Flow, Slice::Price];
-
 // How many such results there are, and how many of them are accepted with the lowest prices.
 #[derive(Clone, Copy, Default)]
 pub struct Changed {
@@ -51,7 +48,7 @@ fn try_number(
 
 fn try_changes(bytes: &[u8], lent: &mut Lent, marks: &mut [u64]) -> Changed {
     let mut changed = Changed::default();
-    for slice in RESULT {
+    for slice in Slice::RESULT {
         for k in 0..lent.len(slice) {
             let number = lent.number(slice, k);
             for other in [number.checked_add(1), number.checked_sub(1)] {

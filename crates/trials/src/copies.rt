@@ -1,16 +1,17 @@
 // Hours read into lists, and written again from these.
-use hour::{Bid, Book, Hour, Line, write};
+use hour::{Bid, Book, Hour, Line};
+use lent::written;
 use std::alloc::{AllocError, Global};
 
-fn buys_of(heap: Global, hour: Hour<'_>) -> Result<Vec<Bid>, AllocError> {
+pub fn buys_of(heap: Global, hour: Hour<'_>) -> Result<Vec<Bid>, AllocError> {
     (0..hour.buys()).map(|k| hour.buy(k)).collect(heap)
 }
 
-fn sells_of(heap: Global, hour: Hour<'_>) -> Result<Vec<Bid>, AllocError> {
+pub fn sells_of(heap: Global, hour: Hour<'_>) -> Result<Vec<Bid>, AllocError> {
     (0..hour.sells()).map(|k| hour.sell(k)).collect(heap)
 }
 
-fn lines_of(heap: Global, hour: Hour<'_>) -> Result<Vec<Line>, AllocError> {
+pub fn lines_of(heap: Global, hour: Hour<'_>) -> Result<Vec<Line>, AllocError> {
     (0..hour.lines()).map(|k| hour.line(k)).collect(heap)
 }
 
@@ -28,7 +29,5 @@ pub fn written_back(heap: Global, bytes: &[u8]) -> Result<bool, AllocError> {
         sells: sells.as_slice(),
         lines: lines.as_slice(),
     };
-    let mut copy = vec![in heap; 0u8; bytes.len()]?;
-    let written = write(book, copy.as_mut_slice());
-    Ok(written.is_ok() && copy.as_slice() == bytes)
+    Ok(written(heap, book)?.as_slice() == bytes)
 }
