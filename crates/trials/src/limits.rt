@@ -9,45 +9,29 @@ pub struct Counts {
     pub lines: u16,
 }
 
-// The low byte of 400,000 first, and so with 1,000,000.
-const HIGHEST_PRICE: [u8; 3] = [0x80, 0x1a, 0x06];
-
-const LARGEST_AMOUNT: [u8; 3] = [0x40, 0x42, 0x0f];
-
-const SMALLEST_AMOUNT: [u8; 3] = [1, 0, 0];
-
-const NOTHING: [u8; 3] = [0, 0, 0];
-
 fn push_count(bytes: &mut Vec<u8>, count: u16) -> Result<(), AllocError> {
     bytes.extend_from_slice(&count.to_le_bytes())
 }
 
-// Bids of the highest price and the largest amount in the last zone, and of the lowest and smallest in the first.
+// By turns a bid of the highest price and the largest amount in the last zone, and one of the lowest and the smallest in the first:
+// 400,000 is 80 1a 06, the low byte first, and 1,000,000 is 40 42 0f.
 fn push_bids(bytes: &mut Vec<u8>, zones: u8, count: u16) -> Result<(), AllocError> {
-    for k in 0..count {
-        if k % 2 == 0 {
-            bytes.push(zones.saturating_sub(1))?;
-            bytes.extend_from_slice(&HIGHEST_PRICE)?;
-            bytes.extend_from_slice(&LARGEST_AMOUNT)?;
-        } else {
-            bytes.push(0)?;
-            bytes.extend_from_slice(&NOTHING)?;
-            bytes.extend_from_slice(&SMALLEST_AMOUNT)?;
-        }
+    let last = zones.saturating_sub(1);
+    let highest: [u8; 7] = [last, 0x80, 0x1a, 0x06, 0x40, 0x42, 0x0f];
+    let lowest: [u8; 7] = [0, 0, 0, 0, 1, 0, 0];
+    for bid in [highest, lowest].iter().cycle().take(count as usize) {
+        bytes.extend_from_slice(bid)?;
     }
     Ok(())
 }
 
-// Lines from the last zone to the first, with the largest capacity, and from the first to itself, with none.
+// By turns a line from the last zone to the first, with the largest capacity, and one from the first to itself, with none.
 fn push_lines(bytes: &mut Vec<u8>, zones: u8, count: u16) -> Result<(), AllocError> {
-    for k in 0..count {
-        if k % 2 == 0 {
-            bytes.extend_from_slice(&[zones.saturating_sub(1), 0])?;
-            bytes.extend_from_slice(&LARGEST_AMOUNT)?;
-        } else {
-            bytes.extend_from_slice(&[0, 0])?;
-            bytes.extend_from_slice(&NOTHING)?;
-        }
+    let last = zones.saturating_sub(1);
+    let widest: [u8; 5] = [last, 0, 0x40, 0x42, 0x0f];
+    let closed: [u8; 5] = [0, 0, 0, 0, 0];
+    for line in [widest, closed].iter().cycle().take(count as usize) {
+        bytes.extend_from_slice(line)?;
     }
     Ok(())
 }
