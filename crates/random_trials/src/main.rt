@@ -1,5 +1,6 @@
 // random_trials [HOURS [SEED]]: clears small drawn hours and holds each beside a slow search of everything, then lends slices to byte
-// strings that are hardly hours. An hour that is not as the slow search has it is printed.
+// strings that are hardly hours. An hour that is not as the slow search has it is printed. Status 0 where there is none, and no string was
+// other than it should be.
 #![tactic(auto)]
 
 mod draws;
@@ -91,25 +92,30 @@ fn number_or(word: Option<String>, absent: u64) -> Result<u64, Fault> {
     word.as_str().parse::<u64>().map_err(|_| Fault::Call)
 }
 
-fn small_hours(rt: &HostRuntime, draws: &mut Draws, hours: u64) -> Result<(), Fault> {
+// Whether all were alike, once that is said.
+fn small_hours(rt: &HostRuntime, draws: &mut Draws, hours: u64) -> Result<bool, Fault> {
     let heap = rt.alloc();
     let mut tally = Tally::default();
+    let mut all_alike = true;
     for number in 0..hours {
         let small = Small::drawn(heap, draws)?;
         let bytes = small.bytes(heap)?;
         let alike = try_hour(heap, draws, &small, bytes.as_slice())?;
         tally.add(alike);
         if !alike.all() {
+            all_alike = false;
             write_answer(
                 rt,
                 format!(in heap; "hour {number} is not alike: {bytes:?}\n")?.as_str(),
             )?;
         }
     }
-    write_answer(rt, format!(in heap; "{tally}\n")?.as_str())
+    write_answer(rt, format!(in heap; "{tally}\n")?.as_str())?;
+    Ok(all_alike)
 }
 
-fn byte_strings(rt: &HostRuntime, draws: &mut Draws, count: u64) -> Result<(), Fault> {
+// Whether each was as it should be, once that is said.
+fn byte_strings(rt: &HostRuntime, draws: &mut Draws, count: u64) -> Result<bool, Fault> {
     let heap = rt.alloc();
     let mut strings = Strings::default();
     for _ in 0..count {
@@ -118,21 +124,27 @@ fn byte_strings(rt: &HostRuntime, draws: &mut Draws, count: u64) -> Result<(), F
     write_answer(
         rt,
         format!(in heap; "{count} byte strings: {strings}\n")?.as_str(),
-    )
+    )?;
+    Ok(strings.right())
 }
 
-fn run(rt: &HostRuntime) -> Result<(), Fault> {
+fn run(rt: &HostRuntime) -> Result<bool, Fault> {
     let (hours, seed) = called(rt)?;
     let mut draws = Draws::new(seed);
-    small_hours(rt, &mut draws, hours)?;
-    byte_strings(rt, &mut draws, hours.saturating_mul(STRINGS))
+    let alike = small_hours(rt, &mut draws, hours)?;
+    let right = byte_strings(rt, &mut draws, hours.saturating_mul(STRINGS))?;
+    Ok(alike && right)
 }
 
 fn main(rt: HostRuntime) -> ExitCode {
-    status(tell(
-        &rt,
-        "random_trials",
-        "random_trials [HOURS [SEED]]",
-        run(&rt),
-    ))
+    match run(&rt) {
+        Ok(true) => ExitCode::SUCCESS,
+        Ok(false) => ExitCode::FAILURE,
+        Err(fault) => status(tell(
+            &rt,
+            "random_trials",
+            "random_trials [HOURS [SEED]]",
+            Err(fault),
+        )),
+    }
 }

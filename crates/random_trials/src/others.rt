@@ -1,4 +1,6 @@
-// Other results of an hour, some that stand and some that do not, for the checker to judge.
+// Other results of an hour, some that stand and some that do not, for the checker to judge. Nothing here sees to it that they differ: a
+// number 0 made less by one stays 0, an empty list has no number to change, and what is drawn may be what is published. Which of them
+// stand is looked at by the rules, and not by how they were made.
 use crate::draws::Draws;
 use crate::rules::Outcome;
 use crate::search::{Found, Pair, TOP_PRICE};
@@ -46,14 +48,12 @@ fn drawn_outcome(heap: Global, draws: &mut Draws, small: &Small) -> Result<Outco
 }
 
 fn drawn_prices(heap: Global, draws: &mut Draws, small: &Small) -> Result<Vec<u64>, AllocError> {
-    let mut prices = Vec::new(heap);
-    for _ in 0..small.zones {
-        prices.push(draws.between(0, TOP_PRICE))?;
-    }
-    Ok(prices)
+    (0..small.zones)
+        .map(|_| draws.between(0, TOP_PRICE))
+        .collect(heap)
 }
 
-// One of the numbers becomes larger or smaller by one; none where there are none.
+// One of the numbers becomes larger by one, or smaller by one if it is not 0; none where there are none.
 fn nudge(draws: &mut Draws, numbers: &mut [u64]) {
     let k = draws.below(numbers.len() as u64) as usize;
     let up = draws.below(2) == 0;

@@ -1,4 +1,5 @@
-// Byte strings that are hardly hours: each is refused or cleared, and where it is refused no number of the lent slices changes.
+// Byte strings that are hardly hours. Looked at is that a refusal changes no number of the lent slices, and that the ledger closes of what
+// is cleared: not which strings are refused, nor with what number and place, and not what the others come to.
 use crate::draws::Draws;
 use crate::small::Small;
 use hour::{Head, read_head};
@@ -63,7 +64,8 @@ fn drawn_string(heap: Global, draws: &mut Draws, small: &Small) -> Result<Vec<u8
     Ok(bytes)
 }
 
-// Slices for what the string says, or for the hour that it was made of where it says nothing; one time in four one is too short.
+// Slices for what the string says, or for the hour that it was made of where it says nothing; one time in four one is shorter by one
+// number, if it has any.
 fn drawn_sizes(draws: &mut Draws, small: &Small, bytes: &[u8]) -> Sizes {
     let sizes = Sizes::for_head(read_head(bytes).unwrap_or(Head::from(small)));
     match draws.one_of(&Slice::ALL) {
@@ -73,6 +75,11 @@ fn drawn_sizes(draws: &mut Draws, small: &Small, bytes: &[u8]) -> Sizes {
 }
 
 impl Strings {
+    // Whether none was other than it should be.
+    pub fn right(self) -> bool {
+        self.changed == 0 && self.open == 0
+    }
+
     pub fn try_one(&mut self, heap: Global, draws: &mut Draws) -> Result<(), AllocError> {
         let small = Small::drawn(heap, draws)?;
         let bytes = drawn_string(heap, draws, &small)?;

@@ -10,6 +10,11 @@ use ledger::published;
 use lent::{Lent, Sizes, Slices};
 use std::alloc::{AllocError, Global};
 
+// What a mark is before the checker writes it, of which a small hour needs three at most.
+const UNTOUCHED: u64 = 7;
+
+const LENT: [u64; 3] = [UNTOUCHED; 3];
+
 // What of an hour is as the slow search has it.
 // By default nothing is: so of an hour that is refused.
 #[derive(Clone, Copy, Default)]
@@ -90,16 +95,18 @@ fn accepts(bytes: &[u8], pair: &Pair) -> bool {
     answer.is_ok()
 }
 
-fn rank(bytes: &[u8], pair: &Pair) -> Result<Option<usize>, Objection> {
-    let mut marks: [u64; 3] = [7, 7, 7];
-    lowest(
+// What the checker answers, and what it leaves in the marks.
+fn rank(bytes: &[u8], pair: &Pair) -> (Result<Option<usize>, Objection>, [u64; 3]) {
+    let mut marks = LENT;
+    let answer = lowest(
         bytes,
         pair.outcome.bought.as_slice(),
         pair.outcome.sold.as_slice(),
         pair.outcome.flow.as_slice(),
         pair.prices.as_slice(),
         &mut marks,
-    )
+    );
+    (answer, marks)
 }
 
 // The first zone whose price is above the lowest of the lists that settle.
@@ -110,12 +117,34 @@ fn first_above(prices: &[u64], lowest: &[u64]) -> Option<usize> {
         .position(|(price, low)| *price > *low)
 }
 
-// Whether the checker says of a result that stands, and of no other, which zone is the first that could be lower.
+// Whether each zone has the mark 1 where its price is the lowest, and else 0.
+fn marked_alike(marks: &[u64], prices: &[u64], lowest: &[u64]) -> bool {
+    prices
+        .iter()
+        .zip(lowest.iter())
+        .zip(marks.iter())
+        .all(|((price, low), mark)| *mark == u64::from(*price == *low))
+}
+
+// Whether the marks behind so many zones are as they were lent.
+fn left_behind(marks: &[u64], zones: usize) -> bool {
+    marks.iter().skip(zones).all(|mark| *mark == UNTOUCHED)
+}
+
+// Whether the checker says of a result that stands, and of no other, which zone is the first that could be lower, with marks that say it
+// of each zone.
 fn ranked_alike(bytes: &[u8], pair: &Pair, stands: bool, found: &Found) -> bool {
-    let above = first_above(pair.prices.as_slice(), found.lowest.as_slice());
-    match rank(bytes, pair) {
-        Ok(lower) => stands && above == lower,
-        Err(Objection::Broken(_)) => !stands,
+    let prices = pair.prices.as_slice();
+    let above = first_above(prices, found.lowest.as_slice());
+    let (answer, marks) = rank(bytes, pair);
+    match answer {
+        Ok(lower) => {
+            stands
+                && above == lower
+                && marked_alike(&marks, prices, found.lowest.as_slice())
+                && left_behind(&marks, prices.len())
+        }
+        Err(Objection::Broken(_)) => !stands && left_behind(&marks, 0),
         Err(Objection::Refused(_)) => false,
     }
 }
