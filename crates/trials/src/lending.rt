@@ -1,5 +1,5 @@
 // Hours cleared in slices that are just long enough, or one number too short.
-use hour::read_head;
+use hour::{Refusal, read_head};
 use lent::{Lent, Sizes, Slice};
 use std::alloc::{AllocError, Global};
 
@@ -21,13 +21,12 @@ pub fn closing_word(heap: Global, bytes: &[u8]) -> Result<&'static str, AllocErr
     }
 }
 
-// What is said of an hour where one of the six slices is too short by one number, and whether any number of any slice changed.
-pub fn one_short(heap: Global, bytes: &[u8], slice: Slice) -> Result<String, AllocError> {
-    let Ok(head) = read_head(bytes) else {
-        return format!(in heap; "no hour\n");
-    };
-    let mut lent = Lent::new(heap, Sizes::for_head(head).one_short(slice))?;
-    let ended = lent.clear(bytes);
+// What a clearing ended with that should be refused, and whether any number of any slice changed.
+pub fn refused_word(
+    heap: Global,
+    ended: Result<u64, Refusal>,
+    lent: &Lent,
+) -> Result<String, AllocError> {
     let word = if lent.unchanged() {
         "unchanged"
     } else {
@@ -37,4 +36,14 @@ pub fn one_short(heap: Global, bytes: &[u8], slice: Slice) -> Result<String, All
         Err(refusal) => format!(in heap; "{refusal} {word}\n"),
         Ok(_) => format!(in heap; "not refused {word}\n"),
     }
+}
+
+// The same of an hour where one of the six slices is too short by one number.
+pub fn one_short(heap: Global, bytes: &[u8], slice: Slice) -> Result<String, AllocError> {
+    let Ok(head) = read_head(bytes) else {
+        return format!(in heap; "no hour\n");
+    };
+    let mut lent = Lent::new(heap, Sizes::for_head(head).one_short(slice))?;
+    let ended = lent.clear(bytes);
+    refused_word(heap, ended, &lent)
 }

@@ -1,5 +1,7 @@
-// Sample hours: the refusals of those that break a rule, what the worked and the odd ones say and come to, and whether their sums
-// close; hours at the limits, the largest sums, and slices that are too short.
+// Prints what becomes of sample hours: of those that break a rule the refusal, and of the worked and the odd ones what they say and come
+// to, whether they are written back as they were read, whether their sums close, what the checker says of what is published and of
+// results that differ from it by one unit, and whether the same comes of their tables; then hours at the limits and the largest sums,
+// with the checker's answer; and what is refused and changes nothing: slices that are too short, and tables that break a rule.
 #![tactic(auto)]
 
 mod changed;
@@ -8,6 +10,7 @@ mod lending;
 mod limits;
 mod samples;
 mod sums;
+mod tables;
 
 use crate::changed::changed_by_one;
 use crate::copies::written_back;
@@ -15,6 +18,7 @@ use crate::lending::{closing_word, one_short};
 use crate::limits::{Counts, hour_of};
 use crate::samples::{ODD, REFUSED, WORKED, sample};
 use crate::sums::largest_hour;
+use crate::tables::{one_buy, same_on_tables};
 use checker::report_on;
 use hour::{Fault, Hour, listing, status, tell, write_answer};
 use ledger::published;
@@ -72,6 +76,14 @@ fn copy_word(written_back: bool) -> &'static str {
     }
 }
 
+fn tables_word(same: bool) -> &'static str {
+    if same {
+        "the same on tables"
+    } else {
+        "not the same on tables"
+    }
+}
+
 // What is published of each hour that breaks a rule, and whether its listing is another.
 fn refused_hours(rt: &HostRuntime) -> Result<(), Fault> {
     let heap = rt.alloc();
@@ -92,7 +104,7 @@ fn refused_hours(rt: &HostRuntime) -> Result<(), Fault> {
 }
 
 // What sample hours of one kind say and come to, whether they are written back as they were read, and whether their sums close; what the
-// checker says of what is published, and of results that differ from it by one unit.
+// checker says of what is published, and of results that differ from it by one unit; whether their tables come to the same.
 fn sample_hours(rt: &HostRuntime, kind: &str, names: &[&str]) -> Result<(), Fault> {
     let heap = rt.alloc();
     for name in names {
@@ -103,10 +115,11 @@ fn sample_hours(rt: &HostRuntime, kind: &str, names: &[&str]) -> Result<(), Faul
         let closes = closing_word(heap, bytes.as_slice())?;
         let report = report_on(heap, bytes.as_slice(), result.as_str().as_bytes())?;
         let changed = changed_by_one(heap, bytes.as_slice())?;
+        let tables = tables_word(same_on_tables(heap, bytes.as_slice())?);
         write_answer(
             rt,
             format!(in heap;
-                "{kind} {name}\n{listed}{copied}\n{result}{closes}\n{report}\n{changed}\n"
+                "{kind} {name}\n{listed}{copied}\n{result}{closes}\n{report}\n{changed}\n{tables}\n"
             )?.as_str(),
         )?;
     }
@@ -126,33 +139,40 @@ fn counts_read(heap: Global, bytes: &[u8]) -> Result<String, AllocError> {
     }
 }
 
+// Only the first two rows of what is published, the worth and a price, since of these hours the others are thousands; whether the sums
+// close, and what the checker says of all rows.
+fn write_large(rt: &HostRuntime, bytes: &[u8]) -> Result<(), Fault> {
+    let heap = rt.alloc();
+    let result = published(heap, bytes)?;
+    let closes = closing_word(heap, bytes)?;
+    let report = report_on(heap, bytes, result.as_str().as_bytes())?;
+    for row in result.as_str().lines().take(2) {
+        write_answer(rt, format!(in heap; "{row}\n")?.as_str())?;
+    }
+    write_answer(rt, format!(in heap; "{closes}\n{report}\n")?.as_str())
+}
+
 fn hours_at_limits(rt: &HostRuntime) -> Result<(), Fault> {
     let heap = rt.alloc();
     for counts in LIMITS {
         let bytes = hour_of(heap, counts)?;
         let text = counts_read(heap, bytes.as_slice())?;
         let copied = copy_word(written_back(heap, bytes.as_slice())?);
-        let closes = closing_word(heap, bytes.as_slice())?;
-        write_answer(rt, format!(in heap; "{text}{copied}\n{closes}\n")?.as_str())?;
+        write_answer(rt, format!(in heap; "{text}{copied}\n")?.as_str())?;
+        write_large(rt, bytes.as_slice())?;
     }
     Ok(())
 }
 
-// Only the first two rows of what is published, the worth and the price: the others are thousands.
 fn largest_hours(rt: &HostRuntime) -> Result<(), Fault> {
     let heap = rt.alloc();
     for (buys, sells) in LARGEST {
         let bytes = largest_hour(heap, buys, sells)?;
-        let text = published(heap, bytes.as_slice())?;
-        let closes = closing_word(heap, bytes.as_slice())?;
         write_answer(
             rt,
             format!(in heap; "buys {buys} sells {sells}\n")?.as_str(),
         )?;
-        for row in text.as_str().lines().take(2) {
-            write_answer(rt, format!(in heap; "{row}\n")?.as_str())?;
-        }
-        write_answer(rt, format!(in heap; "{closes}\n")?.as_str())?;
+        write_large(rt, bytes.as_slice())?;
     }
     Ok(())
 }
@@ -170,13 +190,26 @@ fn short_slices(rt: &HostRuntime) -> Result<(), Fault> {
     Ok(())
 }
 
+// A table that has a number too many, and a bid of nothing.
+fn refused_tables(rt: &HostRuntime) -> Result<(), Fault> {
+    let heap = rt.alloc();
+    let ragged = one_buy(heap, &[0, 30, 10, 0])?;
+    write_answer(rt, format!(in heap; "table of 4 {ragged}")?.as_str())?;
+    let nothing = one_buy(heap, &[0, 30, 0])?;
+    write_answer(
+        rt,
+        format!(in heap; "table of a bid of 0 {nothing}")?.as_str(),
+    )
+}
+
 fn run(rt: &HostRuntime) -> Result<(), Fault> {
     refused_hours(rt)?;
     sample_hours(rt, "worked", &WORKED)?;
     sample_hours(rt, "odd", &ODD)?;
     hours_at_limits(rt)?;
     largest_hours(rt)?;
-    short_slices(rt)
+    short_slices(rt)?;
+    refused_tables(rt)
 }
 
 fn main(rt: HostRuntime) -> ExitCode {
