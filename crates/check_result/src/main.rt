@@ -2,7 +2,8 @@
 // and all its rows follow.
 #![tactic(auto)]
 
-ghost use Rattle.std.specs.Prelude.{◌≡◌, [], ◌∷◌, IfOk, string_bytes};
+ghost use Rattle.std.specs.Prelude.{◌≡◌, [], ◌∷◌, IfOk, cond, string_bytes};
+ghost use Rattle.std.specs.Process.{exit_status};
 ghost use Rattle.checker.specs.Reports.{report_shown};
 ghost use Rattle.hour.specs.Text.{row};
 
@@ -28,10 +29,20 @@ fn run(rt: &HostRuntime) -> Result<bool, Fault> {
     Ok(report.stands())
 }
 
+// The status once the answer is given: 0 where the result stands, and else 1.
+fn status_of(stands: bool) -> ExitCode
+    ensures { exit_status result ≡ cond stands 0 1 }
+{
+    if stands {
+        ExitCode::SUCCESS
+    } else {
+        ExitCode::FAILURE
+    }
+}
+
 fn main(rt: HostRuntime) -> ExitCode {
     match run(&rt) {
-        Ok(true) => ExitCode::SUCCESS,
-        Ok(false) => ExitCode::FAILURE,
+        Ok(stands) => status_of(stands),
         Err(fault) => status(tell(&rt, "check_result", "check_result HOUR RESULT", Err(fault))),
     }
 }

@@ -19,14 +19,8 @@ const FULL_LINE: [u8; 26] = [
     2, 1, 0, 1, 0, 1, 0, 1, 30, 0, 0, 5, 0, 0, 0, 12, 0, 0, 10, 0, 0, 0, 1, 5, 0, 0,
 ];
 
-fn broken(rt: &impl Abort, answer: Result<(), Objection>, rule: u64, number: usize) {
-    match answer {
-        Err(Objection::Broken(broken)) => {
-            assert_eq!(rt; broken.rule(), rule);
-            assert_eq!(rt; broken.number(), number);
-        }
-        Ok(()) | Err(Objection::Refused(_)) => panic!(rt; "no rule is broken"),
-    }
+fn broken(rt: &impl Abort, answer: Result<(), Objection>, rule: Broken) {
+    assert_eq!(rt; answer, Err(Objection::Broken(rule)));
 }
 
 fn refused(rt: &impl Abort, answer: Result<(), Objection>, number: u64, place: usize) {
@@ -76,35 +70,64 @@ fn a_zone_of_another_price_holds_nothing_up(rt: HostRuntime) {
 
 #[test]
 fn a_line_that_carries_something_hands_on_a_price(rt: HostRuntime) {
-    let mut marks: [u64; 2] = [0, 0];
+    let mut marks: [u64; 2] = [7, 7];
     assert_eq!(rt;
         lowest(&FULL_LINE, &[5], &[5], &[5], &[12, 30], &mut marks),
         Ok(Some(1))
     );
+    assert_eq!(rt; marks[0], 1);
+    assert_eq!(rt; marks[1], 0);
     assert_eq!(rt;
         lowest(&FULL_LINE, &[5], &[5], &[5], &[12, 12], &mut marks),
         Ok(None)
     );
+    assert_eq!(rt; marks[0], 1);
+    assert_eq!(rt; marks[1], 1);
 }
 
 #[test]
 fn the_first_rule_broken_is_named(rt: HostRuntime) {
     let huge = 18446744073709551615;
+    let sort = Sort::Buy;
     broken(
         &rt,
         check(&WITH_LINE, &[huge], &[11], &[0], &[12, 0]),
-        20,
-        0,
+        Broken::TooLarge { sort, number: 0 },
     );
-    broken(&rt, check(&WITH_LINE, &[9], &[11], &[0], &[12, 0]), 21, 0);
+    broken(
+        &rt,
+        check(&WITH_LINE, &[9], &[11], &[0], &[12, 0]),
+        Broken::NotAllowed { sort, number: 0 },
+    );
     broken(
         &rt,
         check(&WITH_LINE, &[10], &[9], &[0], &[huge, huge]),
-        21,
-        0,
+        Broken::NotAllowed { sort, number: 0 },
     );
-    broken(&rt, check(&WITH_LINE, &[10], &[9], &[0], &[12, 0]), 22, 0);
-    broken(&rt, check(&WITH_LINE, &[9], &[10], &[1], &[30, 30]), 22, 1);
+    broken(
+        &rt,
+        check(&WITH_LINE, &[10], &[9], &[0], &[12, 0]),
+        Broken::Unbalanced { zone: 0 },
+    );
+    broken(
+        &rt,
+        check(&WITH_LINE, &[9], &[10], &[1], &[30, 30]),
+        Broken::Unbalanced { zone: 1 },
+    );
+}
+
+#[test]
+fn each_rule_has_its_number(rt: HostRuntime) {
+    let sort = Sort::Line;
+    let large = Broken::TooLarge { sort, number: 5 };
+    assert_eq!(rt; large.rule(), 20);
+    assert_eq!(rt; large.number(), 5);
+    let barred = Broken::NotAllowed { sort, number: 6 };
+    assert_eq!(rt; barred.rule(), 21);
+    assert_eq!(rt; barred.number(), 6);
+    let uneven = Broken::Unbalanced { zone: 7 };
+    assert_eq!(rt; uneven.rule(), 22);
+    assert_eq!(rt; uneven.number(), 7);
 }
 
 #[test]
@@ -115,12 +138,25 @@ fn short_slices_are_refused_after_the_head(rt: HostRuntime) {
 }
 
 #[test]
+fn short_slices_are_refused_before_the_items(rt: HostRuntime) {
+    // A buy of nothing, which the sixth rule forbids, at the fifth byte of the bid.
+    let nothing: [u8; 14] = [1, 1, 0, 0, 0, 0, 0, 0, 30, 0, 0, 0, 0, 0];
+    let mut marks: [u64; 1] = [7];
+    refused(&rt, check(&nothing, &[], &[], &[], &[30]), 9, 0);
+    refused(&rt, check(&nothing, &[0], &[], &[], &[]), 9, 3);
+    refused(&rt, check(&nothing, &[0], &[], &[], &[30]), 6, 11);
+    let answer = lowest(&nothing, &[0], &[], &[], &[30], &mut []);
+    refused(&rt, answer.map(|_| ()), 9, 4);
+    let answer = lowest(&nothing, &[0], &[], &[], &[30], &mut marks);
+    refused(&rt, answer.map(|_| ()), 6, 11);
+    assert_eq!(rt; marks[0], 7);
+}
+
+#[test]
 fn short_marks_are_refused(rt: HostRuntime) {
     let mut marks: [u64; 1] = [7];
-    match lowest(&WITH_LINE, &[10], &[10], &[0], &[12, 0], &mut marks) {
-        Err(Objection::Refused(refusal)) => assert_eq!(rt; refusal.place(), 4),
-        Ok(_) | Err(Objection::Broken(_)) => panic!(rt; "nothing is refused"),
-    }
+    let answer = lowest(&WITH_LINE, &[10], &[10], &[0], &[12, 0], &mut marks);
+    refused(&rt, answer.map(|_| ()), 9, 4);
     assert_eq!(rt; marks[0], 7);
 }
 
