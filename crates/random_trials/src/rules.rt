@@ -69,12 +69,10 @@ fn balanced_in(small: &Small, o: &Outcome, zone: u64) -> bool {
 fn each_content<T, F: Fn(&T, u64) -> bool>(entries: &[T], amounts: &[u64], content: F) -> bool
     requires { F.IsAlwaysCallable content }
 {
-    for (entry, amount) in entries.iter().zip(amounts.iter()) {
-        if !content(entry, *amount) {
-            return false;
-        }
-    }
-    true
+    entries
+        .iter()
+        .zip(amounts.iter())
+        .all(|(entry, amount)| content(entry, *amount))
 }
 
 fn bids_within(bids: &[Bid], amounts: &[u64]) -> bool {
