@@ -87,9 +87,8 @@ fn tables_word(same: bool) -> &'static str {
 // What is published of each hour that breaks a rule, and whether its listing is another.
 fn refused_hours(rt: &HostRuntime) -> Result<(), Fault> {
     let heap = rt.alloc();
-    for n in 0..REFUSED {
-        let name = format!(in heap; "{n:03}")?;
-        let bytes = sample(rt, "refused", name.as_str())?;
+    for name in REFUSED {
+        let bytes = sample(rt, "refused", name)?;
         let told = published(heap, bytes.as_slice())?;
         let listed = listing(heap, bytes.as_slice())?;
         write_answer(rt, format!(in heap; "{name} {told}")?.as_str())?;
