@@ -38,10 +38,6 @@ first_some (suc n) b v e = go (first n (λ u. when (b u) u)) refl (first_some n 
         let found = earlier (some ∙ sym (ap (λ r. r else when (b n) n) some) ∙ e) in
         record { below = omega (arith, found.below); holds = found.holds; before = found.before }
 
-pub none_pays :
-    (m : Market) (t : Plan) → first_paying m t ≡ None → (v : ℕ) → v < m.zones → pays t v ≡ false
-none_pays m t none v h = when_none (pays t v) v (first_none (λ u. when (pays t u) u) m.zones none v h)
-
 pub first_pays : (m : Market) (t : Plan) (v : ℕ) → first_paying m t ≡ Some v → Found m.zones (pays t) v
 first_pays m t v = first_some m.zones (pays t) v
 

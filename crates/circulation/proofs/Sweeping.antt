@@ -1,14 +1,9 @@
 -- A sweep zone by zone: what asking one zone does. Assumes nothing.
-use Rattle.std.proofs.Common.{◌≡◌, ℕ, ◌+◌, ◌<◌, true, false, ◌&&◌, ltb, ap, add-one}
+use Rattle.std.proofs.Common.{◌≡◌, ℕ, ◌<◌, true, false, ◌&&◌, ltb}
 use Rattle.std.proofs.lemmas.Bool.{and_from, and_left, and_parts, cond-true, cond-false, cond_both, lt-ltb, ltb-true}
-use Rattle.hour.specs.Market.{Market, Outcome}
+use Rattle.hour.specs.Market.{Market}
 use Rattle.paths.specs.Plan.{Plan, pays, closed_way}
-use Rattle.circulation.specs.Sweep.{bottleneck, Tally, pushed_full, asked, swept}
-
--- one zone more, as a loop has it
-pub swept_more :
-    (m : Market) (t : Plan) (v : ℕ) (o : Outcome) → swept m t (v + 1) o ≡ asked m t v (swept m t v o)
-swept_more m t v o = ap (λ n. swept m t n o) (add-one v)
+use Rattle.circulation.specs.Sweep.{bottleneck, Tally, pushed_full, asked}
 
 module _ (m : Market) (t : Plan) (v : ℕ) (y : Tally) where
   -- how much fits along the zone's way now

@@ -1,5 +1,5 @@
 -- A sweep: each zone that pays pushes, and the first of them always does. Assumes nothing.
-use Rattle.std.proofs.Common.{◌≡◌, ℕ, zero, suc, ◌<◌, ◌≤◌, true, false, is_some, Some, None, Option, refl, ap, ◌∙◌, inl, inr, arith}
+use Rattle.std.proofs.Common.{◌≡◌, ℕ, zero, suc, ◌<◌, ◌≤◌, true, false, is_some, Some, refl, ap, ◌∙◌, inl, inr, arith}
 use Rattle.std.proofs.lemmas.Bool.{cases_eq}
 use Rattle.hour.specs.Market.{Market, Outcome, Proper, Feasible}
 use Rattle.network.specs.Network.{hub}
@@ -12,7 +12,7 @@ use Rattle.circulation.specs.Promises.{StepsSound}
 use Rattle.circulation.proofs.Bottleneck.{bottleneck_fits, bottleneck_some, free_among}
 use Rattle.circulation.proofs.Pushed.{sound_none, sound_more}
 use Rattle.circulation.proofs.Sweeping.{fitting, asked_unpaid, asked_pushes, asked_keeps}
-use Rattle.circulation.proofs.Paying.{none_pays, first_pays, some_pays}
+use Rattle.circulation.proofs.Paying.{first_pays, some_pays}
 
 -- a way that paid when the tables were made pays in whatever outcome it has room
 pub pays_now :
@@ -50,13 +50,6 @@ pushes_grow m o t k (suc n) h =
     grows : (y : Tally) → y.pushes ≤ (asked m t n y).pushes
     grows y = asked_keeps m t n y (λ z. y.pushes ≤ z.pushes) (omega arith) (λ paid some. omega arith)
 
--- each zone pushes once at most
-pub pushes_few : (m : Market) (o : Outcome) (t : Plan) (n : ℕ) → (swept m t n o).pushes ≤ n
-pushes_few m o t zero = omega arith
-pushes_few m o t (suc n) =
-    let before = pushes_few m o t n in
-    asked_keeps m t n (swept m t n o) (λ z. z.pushes ≤ suc n) (omega arith) (λ paid some. omega arith)
-
 module _ (m : Market) (o : Outcome) (t : Plan) (proper : Proper m) (planned : Planned m o t) where
   -- Idea: a zone that pays pushes along a way that is closed and gains, whatever was pushed before; others do nothing.
   pub asked_sound :
@@ -93,15 +86,3 @@ module _ (m : Market) (o : Outcome) (t : Plan) (proper : Proper m) (planned : Pl
   some_pushes some =
       let (v, e) = some_pays m t some in
       first_pushes v e
-
-  -- a sweep that pushes nothing shows that no zone pays, and changes nothing
-  pub still_none_pays : (swept m t m.zones o).pushes ≡ 0 → first_paying m t ≡ None
-  still_none_pays still = go (first_paying m t) refl
-    where
-      go : (r : Option ℕ) → first_paying m t ≡ r → first_paying m t ≡ None
-      go None e = e
-      go (Some v) e = let never : ⊥ = omega (arith, first_pushes v e) in absurd never
-
-  pub still_same : (swept m t m.zones o).pushes ≡ 0 → (swept m t m.zones o).outcome ≡ o
-  still_same still =
-      ap (λ y. y.outcome) (swept_none m o t m.zones (none_pays m t (still_none_pays still)))

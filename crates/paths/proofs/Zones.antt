@@ -35,10 +35,6 @@ module _ (ws : List Way) (v : ℕ) where
 pub nearer_is : (ws : List Way) (v w : ℕ) → nearer (worths ws) (fars ws) v w ≡ way_nearer (way_at ws v) (way_at ws w)
 nearer_is ws v w = rw (worth_is ws v, worth_is ws w, far_is ws v, far_is ws w)
 
--- how many lines a way takes that was read from the slice
-pub far_read : (ws : List Way) (v : ℕ) (w : Way) → w ≡ way_at ws v → w.far ≡ at (fars ws) v
-far_read ws v w is = ap (λ (x : Way). x.far) is ∙ sym (far_is ws v)
-
 -- where no zone has a way
 pub none_there : (n v : ℕ) → way_at (replicate n no_way) v ≡ no_way
 none_there n v =
