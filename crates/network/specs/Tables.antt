@@ -7,6 +7,7 @@
 --   nth_row made t k row k of the table t, made of its three numbers; past the end all three are 0
 --   bids_in t        the bids of a table: zone, price, amount
 --   lines_in t       the lines of a table: from, to, capacity
+--   column_no c      the number of a column that holds zones
 --   zone_total       the amounts, together, of those items that have the zone z in column c
 --   market_in        the market of so many zones with these tables of buys, sells and lines
 --   outcome_in       the outcome with these lists of amounts and flows
@@ -16,6 +17,8 @@ use Rattle.hour.specs.Total.{tagged}
 use Rattle.hour.specs.declared.items.Bid.{Bid}
 use Rattle.hour.specs.declared.items.Line.{Line}
 use Rattle.hour.specs.Market.{Market, Outcome, at}
+use Rattle.network.specs.declared.tables.Column.{Column}
+use Rattle.network.specs.declared.tables.Column.TheVariants.{Zone, From, To}
 
 abbrev pub cell : List ℕ → ℕ → ℕ → ℕ
 cell t k c = at t (3 * k + c)
@@ -47,6 +50,11 @@ market_in zones buys sells lines =
 
 abbrev pub outcome_in : List ℕ → List ℕ → List ℕ → Outcome
 outcome_in bought sold flow = record { bought = bought; sold = sold; flow = flow }
+
+abbrev pub column_no : Column → ℕ
+column_no Zone = 0
+column_no From = 0
+column_no To = 1
 
 abbrev pub zone_total : List ℕ → ℕ → ℕ → List ℕ → ℕ
 zone_total t c z xs = tagged (items t) (λ k. cell t k c) z (at xs)

@@ -6,18 +6,10 @@ ghost use Rattle.std.specs.Option.{SomeIff};
 ghost use Rattle.hour.specs.Market.{at, in_zone, into, out_of, worth};
 ghost use Rattle.network.specs.Given.{outcome_given};
 ghost use Rattle.network.specs.Network.{carried, nth};
-ghost use Rattle.network.specs.Tables.{items, triples, of_numbers, nth_row, bids_in, lines_in, zone_total};
+ghost use Rattle.network.specs.Tables.{items, triples, of_numbers, nth_row, bids_in, lines_in, zone_total, column_no};
 
 use crate::arcs::Item;
 use hour::{Bid, Line};
-
-const ZONE: usize = 0;
-
-const PRICE: usize = 1;
-
-const FROM: usize = 0;
-
-const TO: usize = 1;
 
 #[derive(Clone, Copy)]
 pub struct Tables<'a> {
@@ -153,7 +145,8 @@ pub fn bids_worth(bids: &[u64], amounts: &[u64]) -> Option<u128>
 {
     let mut sum: u128 = 0;
     for (k, row) in rows(bids).iter().enumerate() {
-        sum = sum.checked_add(u128::from(row[PRICE]) * u128::from(number_at(amounts, k)))?;
+        let bid: Bid = row_of(*row);
+        sum = sum.checked_add(u128::from(bid.price) * u128::from(number_at(amounts, k)))?;
     }
     Some(sum)
 }
@@ -181,16 +174,35 @@ pub fn worth_of(t: Tables, o: Amounts) -> Option<Worth>
     })
 }
 
+// A column that holds zones: that of a bid, or those where a line begins and ends.
+#[derive(Clone, Copy)]
+enum Column {
+    Zone,
+    From,
+    To,
+}
+
+impl Column {
+    fn of(self, row: &[u64; 3]) -> u64
+        ensures { result ≡ at row.now (column_no self) }
+    {
+        match (self, row) {
+            (Column::Zone, [zone, _, _]) => *zone,
+            (Column::From, [from, _, _]) => *from,
+            (Column::To, [_, to, _]) => *to,
+        }
+    }
+}
+
 // The amounts, together, of those items that have the zone in a column.
 #[tactic(auto, using(crate::proofs::Triples::cell_in))]
-fn zone_total(table: &[u64], column: usize, zone: u64, amounts: &[u64]) -> u128
-    requires { column < 3 }
-    ensures value { result ≡ zone_total table.now column zone amounts.now }
+fn zone_total(table: &[u64], column: Column, zone: u64, amounts: &[u64]) -> u128
+    ensures value { result ≡ zone_total table.now (column_no column) zone amounts.now }
     ensures small { result ≤ (2 ^ 64 - 1) * items table.now }
 {
     let mut sum: u128 = 0;
     for (k, row) in rows(table).iter().enumerate() {
-        if row[column] == zone {
+        if column.of(row) == zone {
             sum += u128::from(number_at(amounts, k));
         }
     }
@@ -213,7 +225,9 @@ pub fn balance_at(t: Tables, o: Amounts, zone: u64) -> Balance
         ≡ in_zone zone (bids_in t.entry.buys.now) o.entry.bought.now
         + out_of zone (lines_in t.entry.lines.now) o.entry.flow.now }
 {
-    let comes = zone_total(t.sells, ZONE, zone, o.sold) + zone_total(t.lines, TO, zone, o.flow);
-    let goes = zone_total(t.buys, ZONE, zone, o.bought) + zone_total(t.lines, FROM, zone, o.flow);
+    let comes = zone_total(t.sells, Column::Zone, zone, o.sold)
+        + zone_total(t.lines, Column::To, zone, o.flow);
+    let goes = zone_total(t.buys, Column::Zone, zone, o.bought)
+        + zone_total(t.lines, Column::From, zone, o.flow);
     Balance { comes, goes }
 }
