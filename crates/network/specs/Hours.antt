@@ -12,6 +12,9 @@
 --   unsold          nobody buys
 --   apart           the seller asks less than the buyer bids, and every price between them settles
 --
+-- In crates/trials/data/worked, and in docs/TEMPTING.md, which speaks of some, they are the hours A (narrow), A1 (wide),
+-- B (in_part), C (tied), D (unsold) and F (apart).
+--
 -- A bid is written zone, price, amount; a line from, to, capacity.
 use Rattle.std.specs.Prelude.{◌≡◌, ℕ, ◌+◌, List, [], ◌∷◌}
 use Rattle.hour.specs.declared.items.Bid.{Bid}

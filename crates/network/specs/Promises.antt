@@ -6,8 +6,8 @@
 --   Exchange         prices that settle one outcome settle every other that some prices settle
 --   OneLowest        lowest prices are one list; the lowest that settle one outcome are the lowest that settle any (LowestOne m)
 --   LowestCapped     lowest prices are at or below the dearest bid
---   Push             an amount that fits, along a closed way, keeps all limits and balances, and changes the worth by
---                    the amount times what the way gains less what it costs (PushDone)
+--   Push             an amount that fits, along a closed way that leaves no node twice, keeps all limits and balances,
+--                    and changes the worth by the amount times what the way gains less what it costs (PushDone)
 --   AtRest           prices that no free step can raise settle; prices that free ways to the hub bear out are at or
 --                    below every list that settles (RestSettles)
 --   WorkedHours      the worked hours come out as written (HoursWorked)
