@@ -60,5 +60,5 @@ impl Way {
 pub fn way_at(ways: &[Way], v: usize) -> Way
     ensures { result ≡ way_at ways.now v }
 {
-    if v < ways.len() { ways[v] } else { Way::NONE }
+    ways.get(v).copied().unwrap_or(Way::NONE)
 }
