@@ -1,9 +1,10 @@
 -- A line that is looked at: where it leads, and what raising a label over it leaves. Assumes nothing.
 --
 --   StepDone t o s ..    the way over the step s was taken where it is free and better, or nothing was done
-use Rattle.std.proofs.Common.{◌≡◌, ℕ, suc, ◌-◌, ◌^◌, ◌<◌, ◌≤◌, Bool, true, false, cond, ◌&&◌, ltb, List, length, set, sym, refl, ap, ◌∙◌, inl, inr, arith}
-use Rattle.std.proofs.lemmas.Bool.{ltb-true, ltb-false}
+use Rattle.std.proofs.Common.{◌≡◌, ℕ, suc, ◌-◌, ◌^◌, ◌<◌, ◌≤◌, Bool, true, false, cond, ltb, List, length, set, sym, refl, ap, ◌∙◌, inl, inr, arith}
+use Rattle.std.proofs.lemmas.Bool.{cases_lt, le-ltb}
 use Rattle.std.proofs.lemmas.List.{length-map}
+use Rattle.std.specs.Int.{from_bool}
 use Rattle.hour.specs.Market.{Market, Outcome, at, line}
 use Rattle.hour.specs.declared.items.Line.{Line}
 use Rattle.network.proofs.Rows.{length_lines_in}
@@ -22,7 +23,6 @@ use Rattle.paths.specs.Ways.{way_at, way_better, over_line, worths, fars}
 use Rattle.paths.specs.declared.ways.Way.{Way}
 use Rattle.paths.proofs.Keys.{far_below}
 use Rattle.paths.proofs.Raised.{raise_done}
-use Rattle.paths.proofs.Steps.{room_left}
 use Rattle.paths.proofs.Zones.{far_is, keeps_same}
 
 pub record StepDone (t : Tables) (o : Amounts) (s : Step) (ways : List Way) (rose : ℕ) (ways' : List Way) : Type 0 where
@@ -30,9 +30,34 @@ pub record StepDone (t : Tables) (o : Amounts) (s : Step) (ways : List Way) (ros
   pub relaxed : rose ≡ 0 → RelaxedBy (market_given t) (outcome_given o) (worths ways) (fars ways) s
   pub few : rose ≤ 1
 
-one_at_most : (b : Bool) (rose : ℕ) → rose ≡ cond b 1 0 → rose ≤ 1
-one_at_most true rose answer = omega arith
-one_at_most false rose answer = omega arith
+-- a label over a line is raised where a is less than b and the way better: whether it rose, and the ways after
+pub record Tried (a b : ℕ) (ways : List Way) (v w : ℕ) (rose : Bool) (ways' : List Way) : Type 0 where
+  pub taken :
+      a < b →
+      (rose ≡ way_better (way_at ways v) (way_at ways w))
+      × (ways'
+      ≡ cond (way_better (way_at ways v) (way_at ways w)) (set ways v (over_line (way_at ways v) (way_at ways w))) ways)
+  pub passed : b ≤ a → (rose ≡ false) × (ways' ≡ ways)
+
+module _ {a b : ℕ} {rose : Bool} {ways ways' : List Way} {v w : ℕ} where
+  pub is_taken :
+      a < b → rose ≡ way_better (way_at ways v) (way_at ways w) →
+      ways'
+      ≡ cond (way_better (way_at ways v) (way_at ways w)) (set ways v (over_line (way_at ways v) (way_at ways w))) ways →
+      Tried a b ways v w rose ways'
+  is_taken less answer new = record { taken = λ _. (answer, new); passed = λ off. absurd (omega arith) }
+
+  pub is_passed : b ≤ a → rose ≡ ltb a b → ways' ≡ ways → Tried a b ways v w rose ways'
+  is_passed past answer same =
+      record { taken = λ less. absurd (omega arith); passed = λ _. (answer ∙ le-ltb a b past, same) }
+
+rose_by : (b : Bool) → from_bool b ≡ cond b 1 0
+rose_by true = refl
+rose_by false = refl
+
+one_at_most : (b : Bool) → from_bool b ≤ 1
+one_at_most true = omega arith
+one_at_most false = omega arith
 
 -- all ways over a step begin and end where it does
 relaxed_step :
@@ -46,36 +71,39 @@ relaxed_step m o worth far s no_better v w leads some =
 -- the way over a step that has room, or has none, as a test says
 module _
     (t : Tables) (o : Amounts) (sound : Sound t o) (ways : List Way) (settling : Settling t o ways) (ways' : List Way)
-    (rose l : ℕ) (s : Step) (v w : ℕ) (among : Among (market_given t) (item s))
+    (rose : Bool) (l : ℕ) (s : Step) (v w : ℕ) (among : Among (market_given t) (item s))
     (from : start (market_given t) s ≡ v) (to : finish (market_given t) s ≡ w) (v_in : v < t.zones) (w_in : w < t.zones)
     (over : Leads (market_given t) (outcome_given o) v w s → Over (market_given t) (outcome_given o) l v w)
   where
     step_done :
-        (free : Bool) → free ≡ ltb 0 (room (market_given t) (outcome_given o) s) →
-        rose ≡ cond (free && way_better (way_at ways v) (way_at ways w)) 1 0 →
-        ways'
-        ≡ cond (free && way_better (way_at ways v) (way_at ways w))
-        (set ways v (over_line (way_at ways v) (way_at ways w))) ways →
-        StepDone t o s ways rose ways'
-    step_done true is answer new =
-        let leads : Leads (market_given t) (outcome_given o) v w s =
-        record { free = record { among = among; room = ltb-true _ _ (sym is) }; from = from; to = to }
-        in
-        let done = raise_done t o ways ways' l v w rose sound.tables.proper settling v_in w_in (over leads) answer new in
-        record {
-          raised = done.0;
-          relaxed = λ none.
-              relaxed_step _ _ (worths ways) (fars ways) s (λ some. rw (from, to) (done.1 none (rw to at some)));
-          few = one_at_most _ rose answer;
-        }
-    step_done false is none same =
-        rw (none, same)
-        (record {
-          raised = record { settling = settling; falls = omega arith; same = λ e. refl; bids = keeps_same ways };
-          relaxed = λ e u x leads some.
-              let room = leads.free.room in absurd (omega (arith, room, ltb-false _ _ (sym is)));
-          few = omega arith;
-        })
+        (a b : ℕ) → room (market_given t) (outcome_given o) s ≡ b - a → Tried a b ways v w rose ways' →
+        StepDone t o s ways (from_bool rose) ways'
+    step_done a b room_is tried =
+        elim (cases_lt a b) [
+          | inl less ↦
+              let leads : Leads (market_given t) (outcome_given o) v w s =
+              record { free = record { among = among; room = omega (arith, room_is) }; from = from; to = to }
+              in
+              let (answer, new) = tried.taken less in
+              let done =
+              raise_done t o ways ways' l v w (from_bool rose) sound.tables.proper settling v_in w_in (over leads)
+              (rose_by rose ∙ ap (λ (x : Bool). cond x 1 0) answer) new
+              in
+              record {
+                raised = done.0;
+                relaxed = λ none.
+                    relaxed_step _ _ (worths ways) (fars ways) s (λ some. rw (from, to) (done.1 none (rw to at some)));
+                few = one_at_most rose;
+              }
+          | inr past ↦
+              let (none, same) = tried.passed (omega arith) in
+              rw (none, same)
+              (record {
+                raised = record { settling = settling; falls = omega arith; same = λ e. refl; bids = keeps_same ways };
+                relaxed = λ e u x leads some. let room = leads.free.room in absurd (omega (arith, room, room_is));
+                few = omega arith;
+              })
+        ]
 
 module _
     {t : Tables} {o : Amounts} {l : ℕ} {ln : Line} (sound : Sound t o) (within : l < items t.lines.now)
@@ -111,26 +139,19 @@ module _
         record { zones : (ln.to < length ways) × (ln.from < length ways); near : (way_at ways ln.from).far < 2 ^ 32 }
     backward_in = ends_in ln.to ln.from to_in from_in
 
-    module _ {ways' : List Way} {rose : ℕ} where
+    module _ {ways' : List Way} {rose : Bool} where
       pub forward_done :
-          rose ≡ cond (ltb (at o.flow.now l) ln.capacity && way_better (way_at ways ln.from) (way_at ways ln.to)) 1 0 →
-          ways'
-          ≡ cond (ltb (at o.flow.now l) ln.capacity && way_better (way_at ways ln.from) (way_at ways ln.to))
-          (set ways ln.from (over_line (way_at ways ln.from) (way_at ways ln.to))) ways →
-          StepDone t o (Forward (items.Line l)) ways rose ways'
+          Tried (at o.flow.now l) ln.capacity ways ln.from ln.to rose ways' →
+          StepDone t o (Forward (items.Line l)) ways (from_bool rose) ways'
       forward_done =
           step_done t o sound ways settling ways' rose l (Forward (items.Line l)) ln.from ln.to below
           (ap (λ (x : Line). x.from) (sym is)) (ap (λ (x : Line). x.to) (sym is)) from_in to_in inl
-          (ltb (at o.flow.now l) ln.capacity)
-          (room_left _ _ ∙ ap (λ (x : Line). ltb 0 (x.capacity - at o.flow.now l)) is)
+          (at o.flow.now l) ln.capacity (ap (λ (x : Line). x.capacity - at o.flow.now l) (sym is))
 
       pub backward_done :
-          rose ≡ cond (ltb 0 (at o.flow.now l) && way_better (way_at ways ln.to) (way_at ways ln.from)) 1 0 →
-          ways'
-          ≡ cond (ltb 0 (at o.flow.now l) && way_better (way_at ways ln.to) (way_at ways ln.from))
-          (set ways ln.to (over_line (way_at ways ln.to) (way_at ways ln.from))) ways →
-          StepDone t o (Backward (items.Line l)) ways rose ways'
+          Tried 0 (at o.flow.now l) ways ln.to ln.from rose ways' →
+          StepDone t o (Backward (items.Line l)) ways (from_bool rose) ways'
       backward_done =
           step_done t o sound ways settling ways' rose l (Backward (items.Line l)) ln.to ln.from below
           (ap (λ (x : Line). x.to) (sym is)) (ap (λ (x : Line). x.from) (sym is)) to_in from_in inr
-          (ltb 0 (at o.flow.now l)) refl
+          0 (at o.flow.now l) (omega arith)

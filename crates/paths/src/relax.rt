@@ -1,5 +1,5 @@
 // Labels: what each zone's best way to the hub is worth, and over how many lines, raised until no line raises one.
-ghost use Rattle.std.specs.Prelude.{◌≡◌, ℕ, ◌+◌, ◌^◌, ◌<◌, ◌≤◌, length, if◌then◌else◌, ◌&&◌, slice_set};
+ghost use Rattle.std.specs.Prelude.{◌≡◌, ℕ, ◌+◌, ◌^◌, ◌<◌, ◌≤◌, length, if◌then◌else◌, slice_set};
 ghost use Rattle.network.specs.Tables.{items};
 ghost use Rattle.paths.specs.Labels.{BestLabels};
 ghost use Rattle.network.specs.Given.{market_given, outcome_given};
@@ -11,28 +11,26 @@ use crate::ways::Way;
 use hour::Line;
 use network::{row_count, row_in};
 
-// The way over a line from v to w is taken where the line is free and the way better than the one that v has. Answers how many
-// labels rose.
-fn raise(ways: &mut [Way], v: usize, w: usize, is_free: bool) -> u64
+// The way over a line from v to w is taken where it is better than the one that v has. Answers whether v's label rose.
+fn raise(ways: &mut [Way], v: usize, w: usize) -> bool
     requires zones { (v < length ways.old) × (w < length ways.old) }
     requires near { (way_at ways.old w).far < 2 ^ 32 }
-    ensures answer { result ≡ (if is_free && way_better (way_at ways.old v) (way_at ways.old w) then 1 else 0) }
-    ensures ways { ways.new ≡ (if is_free && way_better (way_at ways.old v) (way_at ways.old w) then slice_set ways.old v (over_line (way_at ways.old v) (way_at ways.old w)) else ways.old) }
+    ensures answer { result ≡ way_better (way_at ways.old v) (way_at ways.old w) }
+    ensures ways { ways.new ≡ (if way_better (way_at ways.old v) (way_at ways.old w) then slice_set ways.old v (over_line (way_at ways.old v) (way_at ways.old w)) else ways.old) }
 {
-    if !is_free {
-        return 0;
-    }
     let onward = ways[w];
     let way = &mut ways[v];
     if !onward.is_better(way) {
-        return 0;
+        return false;
     }
     way.worth = onward.worth;
     way.far = onward.far + 1;
-    1
+    true
 }
 
 // A line, both ways: with room it leads from its beginning to its end, and where it carries something from its end to its beginning.
+// Answers how many labels rose. `Settling` is required of the ways here and below, and is no type that holds them, since they are lent
+// to be changed and such a type would have to say at each function that it still lends the same.
 fn relax(given: Given, l: usize, ways: &mut [Way]) -> u64
     requires within { l < items given.tables.lines.now }
     requires settling { Settling given.tables given.amounts ways.old }
@@ -44,9 +42,9 @@ fn relax(given: Given, l: usize, ways: &mut [Way]) -> u64
     let from = line.from as usize;
     let to = line.to as usize;
     let flow = given.amounts.flow[l];
-    let forth = raise(ways, from, to, flow < line.capacity);
-    let back = raise(ways, to, from, flow > 0);
-    forth + back
+    let forth = flow < line.capacity && raise(ways, from, to);
+    let back = flow > 0 && raise(ways, to, from);
+    u64::from(forth) + u64::from(back)
 }
 
 // Number j of n, counted from the first or from the last.
