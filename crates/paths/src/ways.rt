@@ -3,9 +3,9 @@ ghost use Rattle.std.specs.Prelude.{◌≡◌, ◌-◌, ◌^◌, ◌<◌};
 ghost use Rattle.paths.specs.Ways.{way_at, way_pays, way_nearer, way_better};
 
 // What the zone's best way to the hub is worth, over how many lines, by which item it leaves the zone, what the zone's cheapest
-// giver asks, and which bid that is. But for the lines, each is 0 for none and else one more than the number: labels are compared as
-// they are, none below all, and the plan of the definitions has the same numbers. As an Option each would be twice as long, and each
-// comparison a match of two, in the loops where a search spends its time.
+// giver asks, and which bid that is. But for the lines, each is 0 for none and else one more than the number, as the plan of the
+// definitions has it. Options are no plainer: the tests compare them as they are, none below all, and would read alike (`pays` would
+// be `self.ask.is_some() && self.ask < self.worth`), and ways would not hold the plan's numbers but have to be turned into them.
 #[derive(Clone, Copy)]
 pub struct Way {
     pub worth: u64,
