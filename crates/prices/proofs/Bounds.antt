@@ -1,5 +1,5 @@
 -- An hour that keeps the rules fits the bounds of the search, and nothing can always be carried out. Assumes nothing.
-use Rattle.std.proofs.Common.{◌≡◌, ℕ, ◌+◌, ◌-◌, ◌^◌, ◌<◌, ◌≤◌, cond, eqb, List, length, replicate, sym, refl, ap, ◌∙◌, subst, ap₂, inl, inr, arith}
+use Rattle.std.proofs.Common.{◌≡◌, ℕ, ◌+◌, ◌-◌, ◌^◌, ◌<◌, ◌≤◌, cond, eqb, List, length, replicate, sym, refl, ap, ◌∙◌, ap₂, inl, inr, arith}
 use mathlib.Core.Path.{subst⁻¹}
 use Rattle.std.proofs.lemmas.List.{length-replicate, get_or-replicate, ext_get_or, get_or_past, length-map, get_or-map}
 use Rattle.std.proofs.lemmas.Bool.{cases_lt}
@@ -19,9 +19,6 @@ use Rattle.network.specs.Given.{market_given}
 use Rattle.paths.specs.Search.{Bounded}
 use Rattle.paths.specs.Ways.{way_at, worths, plan_of}
 use Rattle.paths.specs.declared.ways.Way.{Way}
-use Rattle.circulation.proofs.Few.{top_small}
-use Rattle.circulation.specs.Promises.{top}
-use Rattle.prices.specs.Found.{Found, result_in, prices_in}
 use Rattle.prices.specs.Laid.{nothing}
 
 pub filled_with : (n : ℕ) (xs : List ℕ) (k : ℕ) → xs ≡ replicate n 0 → n ≡ k → xs ≡ replicate k 0
@@ -101,9 +98,6 @@ pub zeros_feasible :
     Feasible m (outcome_in bought sold flow)
 zeros_feasible m bought sold flow b s f = rw (b, s, f) (nothing_feasible m)
 
-pub bounded_laid : (t : Tables) (m : Market) → market_given t ≡ m → KeepsRules m → Bounded t
-bounded_laid t m same kept = bounded_kept t (subst⁻¹ KeepsRules same kept)
-
 -- tables that say the market m: what is said of it and of their market is the same
 module _
     (z : ℕ) (buys sells lines : List ℕ) (m : Market) (zones_are : z ≡ m.zones) (buys_are : bids_in buys ≡ m.buys)
@@ -114,21 +108,3 @@ module _
 
     pub kept_laid : KeepsRules m → KeepsRules (market_in z buys sells lines)
     kept_laid kept = subst⁻¹ KeepsRules market_laid kept
-
-    pub found_laid :
-        (n : ℕ) (bought sold flow price : List ℕ) →
-        Found (market_in z buys sells lines) n (result_in (market_in z buys sells lines) bought sold flow)
-        (prices_in (market_in z buys sells lines) price) →
-        Found m n (result_in m bought sold flow) (prices_in m price)
-    found_laid n bought sold flow price found =
-        subst (λ x. Found x n (result_in x bought sold flow) (prices_in x price)) market_laid found
-
-    pub few_laid : KeepsRules m → top (market_in z buys sells lines) < 2 ^ 64
-    few_laid kept = omega (arith, top_small (market_in z buys sells lines) (subst⁻¹ KeepsRules market_laid kept))
-
-    pub feasible_laid :
-        (bought sold flow : List ℕ) → bought ≡ replicate (length m.buys) 0 → sold ≡ replicate (length m.sells) 0 →
-        flow ≡ replicate (length m.lines) 0 → Feasible (market_in z buys sells lines) (outcome_in bought sold flow)
-    feasible_laid bought sold flow b s f =
-        subst⁻¹ (λ x. Feasible x (outcome_in bought sold flow)) market_laid
-        (rw (b, s, f) (nothing_feasible m))
