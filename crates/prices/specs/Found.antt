@@ -1,7 +1,7 @@
 -- What clearing finds, and what is promised of it. Assumes nothing: these are definitions.
 --
 --   Fitted m ..          an amount for each bid, a flow for each line and a price for each zone
---   Roomy b s l z ..     slices with at least so many numbers
+--   Roomy b s l z ..     slices for so many buys, sells, lines and zones, or more
 --   result_in m ..       the outcome of m at the front of three slices; prices_in m the prices at the front of one
 --   Found m n o ps       the run that begins with nothing takes n pushes and ends with the outcome o and the prices ps
 --   BestOf m o           no outcome that can be carried out is worth more than o
@@ -24,7 +24,6 @@ pub record Fitted (m : Market) (bought sold flow price : List ℕ) : Type 0 wher
   pub flow_long : length flow ≡ length m.lines
   pub price_long : length price ≡ m.zones
 
--- slices for so many buys, sells, lines and zones, or more
 pub record Roomy (b s l z : ℕ) (bought sold flow price : List ℕ) : Type 0 where
   pub bought_room : b ≤ length bought
   pub sold_room : s ≤ length sold
