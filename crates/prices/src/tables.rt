@@ -8,12 +8,12 @@ ghost use Rattle.paths.specs.Ways.{plan_of};
 ghost use Rattle.prices.specs.Found.{Fitted, Roomy, Found, result_in, prices_in};
 
 use circulation::circulate;
+use hour::MAX_ZONES;
 use network::{Tables, row_count};
 use paths::Way;
 
-// As many zones as an hour may have: `max_zones` of the hour's rules. The constant of that limit is hour's own; if this one were less,
-// the slice of the room below would not be proved.
-const ZONES_ROOM: usize = 32;
+// As many zones as an hour may have.
+const ZONES_ROOM: usize = MAX_ZONES as usize;
 
 // By number: over prices and ways side by side it is not proved what the prices become.
 fn lay_prices(ways: &[Way], price: &mut [u64])
