@@ -1,12 +1,11 @@
 -- What is published of an hour that is cleared in slices just long enough, or refused. Assumes nothing.
-use Rattle.std.proofs.Common.{◌≡◌, ℕ, ◌+◌, ◌*◌, List, [], ◌∷◌, ◌++◌, length, take, Some, None, Ok, Option, sym, ap, ◌∙◌, subst, arith}
+use Rattle.std.proofs.Common.{◌≡◌, ℕ, ◌+◌, ◌*◌, List, ◌++◌, length, take, None, Ok, Option, sym, ap, ◌∙◌, subst, arith}
 use Rattle.std.proofs.lemmas.List.{take_all}
 use Rattle.hour.proofs.Heads.{head_read_ok}
 use Rattle.hour.proofs.Kept.{kept, buys_count, sells_count, lines_count}
 use Rattle.hour.specs.Bytes.{head_read, market_of, refusal_of}
 use Rattle.hour.specs.Market.{Market, Outcome}
 use Rattle.hour.specs.Rules.{KeepsRules}
-use Rattle.hour.specs.Text.{row, refused}
 use Rattle.hour.specs.declared.reading.Head.{Head}
 use Rattle.hour.specs.declared.refusals.Refusal.{Refusal}
 use Rattle.network.specs.Tables.{outcome_in}
@@ -22,12 +21,6 @@ use Rattle.ledger.specs.Entry.{head_size, slices_fault, hour_fault}
 use Rattle.ledger.specs.Money.{LedgerOf, Payable}
 use Rattle.ledger.specs.Published.{ClearedText, PublishedAs, Published}
 use Rattle.ledger.specs.Text.{result_of}
-
-pub refused_published :
-    (bs : List ℕ) (refusal : Refusal) (text : List ℕ) → Some refusal ≡ refusal_of bs → text ≡ row (refused refusal ∷ []) →
-    Published bs text
-refused_published bs refusal text is text_is =
-    subst (λ (o : Option Refusal). PublishedAs o (market_of bs) text) is text_is
 
 pub cleared_published :
     (bs text : List ℕ) → None ≡ refusal_of bs → ClearedText (market_of bs) text → Published bs text
