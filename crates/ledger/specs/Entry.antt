@@ -21,7 +21,7 @@
 -- three sums; for work 64 numbers for each buy, sell and line.
 use Rattle.std.specs.Prelude.{◌≡◌, ℕ, ◌+◌, ◌*◌, ◌≤◌, List, ◌++◌, length, drop, replicate, Option, Result, IfOk}
 use Rattle.std.specs.Result.{result_err}
-use Rattle.hour.specs.Bytes.{market_of, head_of, refusal_with}
+use Rattle.hour.specs.Bytes.{market_of, head_of, needed_by, refusal_with}
 use Rattle.hour.specs.First.{◌else◌}
 use Rattle.hour.specs.Market.{Market, Feasible, Settled}
 use Rattle.hour.specs.Rules.{lent_fault, results_fault}
@@ -41,7 +41,7 @@ head_size h = h.buys + h.sells + h.lines
 
 abbrev pub slices_fault : Head → Lengths → ℕ → ℕ → Option Refusal
 slices_fault h has ledger work =
-    results_fault has (lengths h.buys h.sells h.lines h.zones)
+    results_fault has (needed_by h)
     else lent_fault 4 ledger (head_size h + 3)
     else lent_fault 5 work (64 * head_size h)
 

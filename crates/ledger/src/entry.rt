@@ -1,10 +1,10 @@
 // The entry on an hour's bytes: refused with a rule and a place, or cleared, with its ledger.
-ghost use Rattle.std.specs.Prelude.{◌≡◌, ◌+◌, ◌*◌, ◌≤◌, length, Ok};
+ghost use Rattle.std.specs.Prelude.{◌≡◌, ◌+◌, ◌*◌, ◌^◌, ◌<◌, ◌≤◌, length, Ok};
 ghost use Rattle.std.specs.Result.{result_err};
 ghost use Rattle.hour.specs.Bytes.{market_of, head_read};
 ghost use Rattle.prices.specs.Ended.{FoundIn, Left, Wiped, lengths};
 ghost use Rattle.prices.specs.Found.{Roomy};
-ghost use Rattle.ledger.specs.Entry.{slices_fault, hour_fault, CarriedOut, SettledBy, LowestPrices, NobodyRegrets};
+ghost use Rattle.ledger.specs.Entry.{head_size, slices_fault, hour_fault, CarriedOut, SettledBy, LowestPrices, NobodyRegrets};
 ghost use Rattle.ledger.specs.Entry.{BestWorth, Booked, Closed, Counted, ClearedIn, slices};
 ghost use Rattle.hour.specs.Seen.{market_seen};
 ghost use Rattle.ledger.specs.Money.{row_count};
@@ -15,24 +15,12 @@ use network::Amounts;
 use prices::clear_lent;
 
 // The first lent slice that is too short for an hour with this head.
-fn check_slices(
-    bytes: &[u8],
-    head: Head,
-    has: Lengths,
-    ledger: usize,
-    work: usize,
-) -> Result<(), Refusal>
-    requires { head_read bytes.now ≡ Ok head }
+fn check_slices(head: Head, has: Lengths, ledger: usize, work: usize) -> Result<(), Refusal>
+    requires { 64 * head_size head < 2 ^ 64 }
     ensures { result_err result ≡ slices_fault head has ledger work }
 {
-    let needed = Lengths {
-        bought: head.buys as usize,
-        sold: head.sells as usize,
-        flow: head.lines as usize,
-        prices: head.zones as usize,
-    };
     let items = (head.buys + head.sells + head.lines) as usize;
-    check_results(has, needed)?;
+    check_results(has, Lengths::from(head))?;
     check_lent(4, ledger, items + 3)?;
     check_lent(5, work, 64 * items)
 }
@@ -42,7 +30,7 @@ fn check_hour(bytes: &[u8], has: Lengths, ledger: usize, work: usize) -> Result<
     ensures { result_err result ≡ hour_fault bytes.now has ledger work }
 {
     let head = read_head(bytes)?;
-    check_slices(bytes, head, has, ledger, work)?;
+    check_slices(head, has, ledger, work)?;
     check_items(bytes, head)
 }
 
