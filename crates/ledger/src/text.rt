@@ -31,6 +31,7 @@ fn zone_rows(text: &mut String, prices: &[u64]) -> Result<(), AllocError>
     Ok(())
 }
 
+// One row: what it says goes together nowhere else, so each is a parameter.
 fn item_row(
     text: &mut String,
     sort: Sort,

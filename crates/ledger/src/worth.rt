@@ -10,33 +10,42 @@ use crate::money::price_asked;
 use hour::{Hour, Sort};
 use network::{Amounts, Item};
 
-// The k-th item of a sort at its own price.
-#[tactic(auto, using(crate::proofs::Limits::worth_fits, crate::proofs::Limits::rules_of))]
-fn item_worth(hour: Hour<'_>, o: Amounts<'_>, sort: Sort, k: usize) -> u64
-    requires among { k < count_of (market_seen hour) sort }
-    requires feasible { Feasible (market_seen hour) (outcome_given o) }
-    ensures value { result ≡ asked (market_seen hour.entry) (item sort k) * carried (outcome_given o.entry) (item sort k) }
-    ensures small { result ≤ 400000000000 }
-{
-    let item = Item::of(sort, k);
-    price_asked(hour, item) * o.of(item)
+// An hour with an outcome that can be carried out: less than what is cleared, or stands for the checker, holds.
+#[derive(Clone, Copy)]
+struct Carried<'h, 'o> {
+    hour: Hour<'h>,
+    amounts: Amounts<'o>,
+    ghost feasible: { Feasible (market_seen hour) (outcome_given amounts) },
 }
 
-// The items of one sort at their own prices.
-fn worth_of(hour: Hour<'_>, o: Amounts<'_>, sort: Sort) -> u64
-    requires { Feasible (market_seen hour) (outcome_given o) }
-    ensures value { result ≡ worth_of (market_seen hour.entry) (outcome_given o.entry) sort }
-    ensures small { result ≤ 400000000000000 }
-{
-    (0..hour.count(sort))
-        .map(|k| item_worth(hour, o, sort, k))
-        .sum()
+impl Carried<'_, '_> {
+    // The k-th item of a sort at its own price.
+    #[tactic(auto, using(crate::proofs::Limits::worth_fits, crate::proofs::Limits::rules_of))]
+    fn item_worth(self, sort: Sort, k: usize) -> u64
+        requires { k < count_of (market_seen self.hour) sort }
+        ensures value { result ≡ asked (market_seen self.entry.hour) (item sort k) * carried (outcome_given self.entry.amounts) (item sort k) }
+        ensures small { result ≤ 400000000000 }
+    {
+        let item = Item::of(sort, k);
+        price_asked(self.hour, item) * self.amounts.of(item)
+    }
+
+    // The items of one sort at their own prices.
+    fn worth_of(self, sort: Sort) -> u64
+        ensures value { result ≡ worth_of (market_seen self.entry.hour) (outcome_given self.entry.amounts) sort }
+        ensures small { result ≤ 400000000000000 }
+    {
+        (0..self.hour.count(sort))
+            .map(|k| self.item_worth(sort, k))
+            .sum()
+    }
 }
 
-// What is bought is worth, less what is sold.
+// What is bought is worth, less what is sold. Its callers hold the fact that it asks for, each in a type of its own.
 pub fn worth_in(hour: Hour<'_>, o: Amounts<'_>) -> i64
     requires { Feasible (market_seen hour) (outcome_given o) }
     ensures { result ≡ worth_by (market_seen hour.entry) (outcome_given o.entry) }
 {
-    worth_of(hour, o, Sort::Buy) as i64 - worth_of(hour, o, Sort::Sell) as i64
+    let carried = Carried { hour, amounts: o };
+    carried.worth_of(Sort::Buy) as i64 - carried.worth_of(Sort::Sell) as i64
 }
