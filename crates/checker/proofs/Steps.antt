@@ -42,11 +42,7 @@ one_price_some line t o p rest prices is price = rw (← is, price)
 pub one_price_none : (line : ℕ) (t : Prices) (o : Read ℕ) → None ≡ o → one_price line t o ≡ Err line
 one_price_none line t o is = rw (← is)
 
--- nothing behind the last row, or something
-pub ended_empty : {A : Type 0} (line : ℕ) (rest : List ℕ) (x : A) → length rest ≡ 0 → ended line rest x ≡ Ok x
-ended_empty line [] x empty = refl
-ended_empty line (b ∷ rest) x empty = absurd (omega arith)
-
+-- something behind the last row
 pub ended_more : {A : Type 0} (line : ℕ) (rest : List ℕ) (x : A) → (length rest ≡ 0 → ⊥) → ended line rest x ≡ Err line
 ended_more line [] x more = absurd (more refl)
 ended_more line (b ∷ rest) x more = refl
