@@ -7,7 +7,7 @@ ghost use Rattle.network.specs.Given.{outcome_given};
 ghost use Rattle.checker.specs.Acceptance.{lent_refusal, refusal_to_check};
 ghost use Rattle.checker.specs.Marks.{refusal_to_mark};
 
-use hour::{Head, Hour, Refusal, check_items, check_lent, read_head};
+use hour::{Head, Hour, Lengths, Refusal, check_items, check_lent, check_results, read_head};
 use network::Amounts;
 
 // The first lent slice that is too short for an hour with this head. Amounts and prices are two parameters here: there is no hour
@@ -15,10 +15,13 @@ use network::Amounts;
 fn check_slices(head: Head, amounts: Amounts, prices: &[u64]) -> Result<(), Refusal>
     ensures { result_err result ≡ lent_refusal head (outcome_given amounts.entry) prices.now }
 {
-    check_lent(0, amounts.bought.len(), head.buys as usize)?;
-    check_lent(1, amounts.sold.len(), head.sells as usize)?;
-    check_lent(2, amounts.flow.len(), head.lines as usize)?;
-    check_lent(3, prices.len(), head.zones as usize)
+    let has = Lengths {
+        bought: amounts.bought.len(),
+        sold: amounts.sold.len(),
+        flow: amounts.flow.len(),
+        prices: prices.len(),
+    };
+    check_results(has, Lengths::from(head))
 }
 
 // The same, and the marks.
