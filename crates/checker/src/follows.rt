@@ -31,7 +31,7 @@ fn owed(above: u64, base: u64, amount: u64) -> i128
     requires { amount ≤ max_amount }
     ensures { result ≡ owed above base amount }
 {
-    (above as i128 - base as i128) * amount as i128
+    (i128::from(above) - i128::from(base)) * i128::from(amount)
 }
 
 // A number that is written where another follows.
