@@ -10,6 +10,7 @@
 --   HouseText            whatever is reported of the text that the house publishes of an hour is: accepted, and lowest
 --   Answers ..           an answer about prices, with the marks that are left, meets the contract
 --   OneLowness           one answer about prices, with one list of marks, meets the contract
+--   OneReport            of an hour's bytes and a text one thing is reported
 --   table_of t s         what a text says of a sort
 --   Says m o ps n t      a text says the amounts, the prices, the money of each row, the worth and the count of pushes
 --   ReadsBack m o ps n   the text of an outcome is read, and says that
@@ -85,6 +86,9 @@ abbrev pub OneLowness : Type 0
 OneLowness =
     (bs : List ℕ) (o : Outcome) (ps old new other : List ℕ) (r s : Result (Option ℕ) Objection) → Answers bs o ps old new r →
     Answers bs o ps old other s → (new ≡ other) × (r ≡ s)
+
+abbrev pub OneReport : Type 0
+OneReport = (bs text : List ℕ) (r s : Report) → Reports bs text r → Reports bs text s → r ≡ s
 
 abbrev pub table_of : Saying → Sort → Table
 table_of t sorts.Buy = t.buys

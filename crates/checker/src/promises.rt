@@ -1,6 +1,6 @@
 // What the checker promises: each function's contract is one statement, proved of the definitions.
 ghost use Rattle.checker.specs.Promises.{AcceptedBest, PublishedAccepted, LowestFound, HouseAccepted, HouseLowest};
-ghost use Rattle.checker.specs.Promises.{OneLowness, ReadBack, HouseText};
+ghost use Rattle.checker.specs.Promises.{OneLowness, OneReport, ReadBack, HouseText};
 
 pub fn accepted_best_holds()
     ensures { AcceptedBest }
@@ -16,6 +16,10 @@ pub fn lowest_found_holds()
 
 pub fn one_lowness_holds()
     ensures { OneLowness }
+{}
+
+pub fn one_report_holds()
+    ensures { OneReport }
 {}
 
 pub fn house_accepted_holds()
