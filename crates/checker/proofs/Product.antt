@@ -1,9 +1,9 @@
 -- A product of signed numbers of 128 bits, from unsigned ones of 64 bits, one of them small. Assumes nothing.
-use Rattle.std.proofs.Common.{◌≡◌, ℕ, ◌^◌, ◌<◌, ◌≤◌, ℤ, pos, ◌-ℤ◌, ◌*ℤ◌, nat_abs, ◌∙◌, ap₂, arith, SFits, to_z, of_z}
+use Rattle.std.proofs.Common.{◌≡◌, ℕ, ◌^◌, ◌<◌, ◌≤◌, ℤ, pos, ◌-ℤ◌, ◌*ℤ◌, nat_abs, ap, ◌∙◌, arith, SFits, to_z, of_z}
 use mathlib.Core.Path.{subst⁻¹}
 use borrow.Author.Differences.{ints}
 use mir.Syntax.{w128}
-use Rattle.std.proofs.lemmas.Int.{to_z-of_z, to_z_pos}
+use Rattle.std.proofs.lemmas.Int.{to_z-of_z}
 use Rattle.hour.specs.Rules.{max_amount}
 use Rattle.ledger.specs.Money.{owed}
 use Rattle.ledger.proofs.Size.{size_between, size_owed}
@@ -17,21 +17,19 @@ module _ (a b x : ℕ) (a_small : a < 2 ^ 64) (b_small : b < 2 ^ 64) (x_small : 
   between = size_between a b largest (omega arith) (omega arith)
 
   abbrev pub difference : ℤ
-  difference = to_z w128 (of_z w128 (to_z w128 a -ℤ to_z w128 b))
+  difference = to_z w128 (of_z w128 (pos a -ℤ pos b))
 
   difference_is : difference ≡ pos a -ℤ pos b
-  difference_is =
-      ap₂ (λ (p q : ℤ). to_z w128 (of_z w128 (p -ℤ q))) (to_z_pos w128 a (omega arith)) (to_z_pos w128 b (omega arith))
-      ∙ to_z-of_z w128 (pos a -ℤ pos b) (fits_wide (pos a -ℤ pos b) (omega (arith, between)))
+  difference_is = to_z-of_z w128 (pos a -ℤ pos b) (fits_wide (pos a -ℤ pos b) (omega (arith, between)))
 
-  product_is : difference *ℤ to_z w128 x ≡ owed a b x
-  product_is = ap₂ ◌*ℤ◌ difference_is (to_z_pos w128 x (omega arith))
+  product_is : difference *ℤ pos x ≡ owed a b x
+  product_is = ap (λ (d : ℤ). d *ℤ pos x) difference_is
 
   owed_fits : SFits w128 (owed a b x)
   owed_fits = fits_wide (owed a b x) (omega (arith, size_owed a b x largest max_amount between x_small))
 
-  pub product_fits : SFits w128 (difference *ℤ to_z w128 x)
+  pub product_fits : SFits w128 (difference *ℤ pos x)
   product_fits = subst⁻¹ (SFits w128) product_is owed_fits
 
-  pub product_back : to_z w128 (of_z w128 (difference *ℤ to_z w128 x)) ≡ owed a b x
-  product_back = to_z-of_z w128 (difference *ℤ to_z w128 x) product_fits ∙ product_is
+  pub product_back : to_z w128 (of_z w128 (difference *ℤ pos x)) ≡ owed a b x
+  product_back = to_z-of_z w128 (difference *ℤ pos x) product_fits ∙ product_is

@@ -2,7 +2,7 @@
 // one, since the library's `parse` takes a plus and zeros in front.
 ghost use Rattle.std.specs.Prelude.{◌≡◌, ◌^◌, ◌<◌, ◌≤◌, MatchOption};
 ghost use Rattle.checker.specs.Reading.{seen, rest_seen, after, digits, number, below, above, whole, index, digit};
-ghost use Rattle.checker.specs.Reading.{hundredths, owed_price, paid_price, price, largest, widest};
+ghost use Rattle.checker.specs.Reading.{hundredths, owed_price, paid_price, price, largest};
 
 use hour::ZERO_PRICE;
 
