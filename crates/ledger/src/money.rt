@@ -19,8 +19,8 @@ fn owed(above: u64, base: u64, amount: u64) -> i64
     (above as i64 - base as i64) * amount as i64
 }
 
-// The zone's price for a bid, and for a line the price where it ends. Here and below an item is asked to be one of the hour's: a bound on
-// its number, as a slice asks of an index.
+// The zone's price for a bid, and for a line the price where it ends. Here and below an item has to be one of the hour's: that is
+// a bound on its number, as a slice asks of an index.
 pub fn price_above(hour: Hour<'_>, prices: &[u64], item: Item) -> u64
     requires { Among (market_seen hour) item }
     ensures { result ≡ above (market_seen hour.entry) prices.now item }
