@@ -3,6 +3,8 @@
 
 usage: python3 tools/respell.py [--list]      at the top of the repository, once, after the port's own script
 
+It was run once, and is kept as a record of how names were turned (docs/PORT.md).
+
 The program check becomes check_hour, since the toolchain has a library of the old name.
 A name counts as the repository's where one of its specs/ or proofs/ declares or binds it. Names of the library keep their
 spelling; of a name that the prover makes from the code, the code's own names in it get their underscores back.
