@@ -4,7 +4,7 @@ ghost use Rattle.std.specs.Result.{result_err};
 ghost use Rattle.hour.specs.Market.{count_of};
 ghost use Rattle.hour.specs.Seen.{market_seen};
 ghost use Rattle.network.specs.Tables.{outcome_in};
-ghost use Rattle.network.specs.Given.{outcome_given};
+ghost use Rattle.network.specs.Given.{};
 ghost use Rattle.checker.specs.Acceptance.{claimed, item_broken, buy_broken, sell_broken, line_broken};
 ghost use Rattle.checker.specs.Acceptance.{sort_broken, first_broken, broken_of};
 ghost use Rattle.checker.specs.Acceptance.{verdict_of, Stands, Exactly};

@@ -1,5 +1,5 @@
 // Whether the worth and the money of each row follow from the amounts and the prices.
-ghost use Rattle.std.specs.Prelude.{◌≡◌, ◌+◌, ◌^◌, ◌<◌, ◌≤◌, Some};
+ghost use Rattle.std.specs.Prelude.{◌≡◌, ◌<◌, ◌≤◌};
 ghost use Rattle.std.specs.Result.{result_err};
 ghost use Rattle.hour.specs.Market.{count_of};
 ghost use Rattle.hour.specs.Seen.{market_seen};

@@ -1,5 +1,5 @@
 // A push along a closed way: so much more along each of its steps.
-ghost use Rattle.std.specs.Prelude.{◌≡◌, ◌^◌, ◌<◌};
+ghost use Rattle.std.specs.Prelude.{◌≡◌, ◌<◌};
 ghost use Rattle.std.specs.List.{AllByRecursion};
 ghost use Rattle.network.specs.Given.{market_given};
 ghost use Rattle.network.specs.Tables.{outcome_in};

@@ -1,7 +1,7 @@
 // Numbers in bytes, low byte first.
-ghost use Rattle.std.specs.Prelude.{◌≡◌, ◌+◌, ◌*◌, ◌<◌, ◌≤◌, length};
+ghost use Rattle.std.specs.Prelude.{◌≡◌, ◌+◌, ◌<◌, ◌≤◌, length};
 ghost use Rattle.std.proofs.Math.Seq.{paste};
-ghost use Rattle.hour.specs.Bytes.{byte, two, three, low_bytes};
+ghost use Rattle.hour.specs.Bytes.{two, three, low_bytes};
 
 // The number in the two bytes from `i` on, low byte first.
 pub fn two_bytes(bytes: &[u8], i: usize) -> u64

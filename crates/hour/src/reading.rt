@@ -103,7 +103,7 @@ pub fn check_bytes(bytes: &[u8]) -> Result<(), Refusal>
     check_items(bytes, head)
 }
 
-// The same, or nothing: then they are an hour. It is public as it stands, and its callers show a refusal where there is one.
+// The same, or nothing: then they are an hour. For a caller that wants the refusal and not the hour; it is public, and stays so.
 pub fn refusal(bytes: &[u8]) -> Option<Refusal>
     ensures { result ≡ refusal_of bytes.now }
 {

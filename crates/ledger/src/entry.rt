@@ -1,7 +1,7 @@
 // The entry on an hour's bytes: refused with a rule and a place, or cleared, with its ledger.
-ghost use Rattle.std.specs.Prelude.{◌≡◌, ◌+◌, ◌*◌, ◌^◌, ◌<◌, ◌≤◌, length, Ok};
+ghost use Rattle.std.specs.Prelude.{◌≡◌, ◌+◌, ◌*◌, ◌^◌, ◌<◌, ◌≤◌, length};
 ghost use Rattle.std.specs.Result.{result_err};
-ghost use Rattle.hour.specs.Bytes.{market_of, head_read};
+ghost use Rattle.hour.specs.Bytes.{market_of};
 ghost use Rattle.prices.specs.Ended.{FoundIn, Left, Wiped, lengths};
 ghost use Rattle.prices.specs.Found.{Roomy};
 ghost use Rattle.ledger.specs.Entry.{head_size, slices_fault, hour_fault, CarriedOut, SettledBy, LowestPrices, NobodyRegrets};

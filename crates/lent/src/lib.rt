@@ -197,7 +197,7 @@ fn row(ledger: &[u64], k: usize) -> i64 {
     ledger.get(k).map_or(0, |money| money.cast_signed())
 }
 
-// So many rows, from one on.
+// So many rows, from one on: nothing says how long a ledger is, so it is not split.
 fn sum_of_rows(ledger: &[u64], from: usize, count: usize) -> i64 {
     ledger
         .iter()

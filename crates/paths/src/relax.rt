@@ -1,5 +1,5 @@
 // Labels: what each zone's best way to the hub is worth, and over how many lines, raised until no line raises one.
-ghost use Rattle.std.specs.Prelude.{◌≡◌, ℕ, ◌+◌, ◌^◌, ◌<◌, ◌≤◌, length, if◌then◌else◌, slice_set};
+ghost use Rattle.std.specs.Prelude.{◌≡◌, ℕ, ◌^◌, ◌<◌, ◌≤◌, length, if◌then◌else◌, slice_set};
 ghost use Rattle.network.specs.Tables.{items};
 ghost use Rattle.paths.specs.Labels.{BestLabels};
 ghost use Rattle.network.specs.Given.{market_given, outcome_given};

@@ -1,9 +1,9 @@
 // The entry on tables: whatever they hold, they are cleared or refused.
-ghost use Rattle.std.specs.Prelude.{◌≡◌, ◌+◌, ◌*◌, ◌^◌, ◌<◌, ◌≤◌, length};
+ghost use Rattle.std.specs.Prelude.{◌≡◌, ◌+◌, ◌*◌, ◌^◌, ◌<◌, length};
 ghost use Rattle.std.specs.Result.{result_err};
 ghost use Rattle.hour.specs.First.{first};
 ghost use Rattle.hour.specs.Rules.{item_fault};
-ghost use Rattle.network.specs.Tables.{items, rows_in, nth_row, bids_in, lines_in, market_in};
+ghost use Rattle.network.specs.Tables.{items, rows_in, nth_row, market_in};
 ghost use Rattle.network.specs.Given.{market_given};
 ghost use Rattle.prices.specs.Ended.{FoundIn, PromisedIn, Left, Wiped, ragged_fault, layout_fault};
 ghost use Rattle.prices.specs.Ended.{lengths, slices_fault, tables_fault, Small};

@@ -1,5 +1,5 @@
 // The bids and lines of an hour, laid into tables of three numbers to an item.
-ghost use Rattle.std.specs.Prelude.{◌≡◌, ℕ, ◌+◌, ◌*◌, ◌<◌, length};
+ghost use Rattle.std.specs.Prelude.{◌≡◌, ℕ, ◌*◌, ◌<◌, length};
 ghost use Rattle.hour.specs.Bytes.{market_of};
 ghost use Rattle.hour.specs.Market.{bid, line};
 ghost use Rattle.network.specs.Tables.{bids_in, lines_in};

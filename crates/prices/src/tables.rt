@@ -1,5 +1,5 @@
 // A market cleared on tables that the caller lends.
-ghost use Rattle.std.specs.Prelude.{◌≡◌, length, drop, replicate};
+ghost use Rattle.std.specs.Prelude.{◌≡◌, length, drop};
 ghost use Rattle.hour.specs.Rules.{KeepsRules};
 ghost use Rattle.network.specs.Tables.{items, outcome_in};
 ghost use Rattle.paths.specs.Promises.{prices_of};

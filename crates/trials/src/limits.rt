@@ -19,7 +19,7 @@ fn push_bids(bytes: &mut Vec<u8>, zones: u8, count: u16) -> Result<(), AllocErro
     let last = zones.saturating_sub(1);
     let highest: [u8; 7] = [last, 0x80, 0x1a, 0x06, 0x40, 0x42, 0x0f];
     let lowest: [u8; 7] = [0, 0, 0, 0, 1, 0, 0];
-    for bid in [highest, lowest].iter().cycle().take(count as usize) {
+    for bid in [highest, lowest].iter().cycle().take(usize::from(count)) {
         bytes.extend_from_slice(bid)?;
     }
     Ok(())
@@ -30,7 +30,7 @@ fn push_lines(bytes: &mut Vec<u8>, zones: u8, count: u16) -> Result<(), AllocErr
     let last = zones.saturating_sub(1);
     let widest: [u8; 5] = [last, 0, 0x40, 0x42, 0x0f];
     let closed: [u8; 5] = [0, 0, 0, 0, 0];
-    for line in [widest, closed].iter().cycle().take(count as usize) {
+    for line in [widest, closed].iter().cycle().take(usize::from(count)) {
         bytes.extend_from_slice(line)?;
     }
     Ok(())
