@@ -2,8 +2,8 @@
 // a ledger close; and an hour as its bytes.
 #![tactic(auto)]
 
-ghost use Rattle.std.specs.Prelude.{◌≡◌, IfOk};
-ghost use Rattle.hour.specs.Books.{market_in, size_of};
+ghost use Rattle.std.specs.Prelude.{◌≡◌, IfOk, replicate};
+ghost use Rattle.hour.specs.Books.{market_in, size_of, left_by, written};
 ghost use Rattle.hour.specs.Bytes.{bytes_of};
 ghost use Rattle.hour.specs.Rules.{KeepsRules};
 
@@ -215,7 +215,8 @@ fn size_of(book: Book<'_>) -> usize
 
 // The bytes of an hour, in a vector of the right size. They are zeros, which are refused, where it breaks a rule.
 pub fn written(heap: Global, book: Book<'_>) -> Result<Vec<u8>, AllocError>
-    ensures { IfOk result (λ bytes. KeepsRules (market_in book.entry) → bytes.items ≡ bytes_of (market_in book.entry)) }
+    ensures whole { IfOk result (λ bytes. KeepsRules (market_in book.entry) → bytes.items ≡ bytes_of (market_in book.entry)) }
+    ensures exact { IfOk result (λ bytes. bytes.items ≡ left_by (market_in book.entry) (written (market_in book.entry) (size_of (market_in book.entry))) (replicate (size_of (market_in book.entry)) 0)) }
 {
     let mut bytes = vec![in heap; 0u8; size_of(book)]?;
     let _ = write(book, bytes.as_mut_slice());
