@@ -11,7 +11,7 @@ use Rattle.hour.specs.Market.{no_bid, no_line}
 use Rattle.hour.specs.Rules.{item_fault, max_zones, max_bids, max_lines, bids_fault, all_lines_fault, bid_fault}
 use Rattle.hour.specs.Rules.{line_fault, bid_place, line_place, zones_fault, count_fault}
 use Rattle.hour.specs.declared.refusals.Sort.TheVariants as sorts
-use Rattle.hour.specs.Bytes.{byte, two, size_said, head_fault, head_of, head_read, bids_read, lines_read, bids_said}
+use Rattle.hour.specs.Bytes.{byte, two, size_said, limits_fault, head_fault, head_of, head_read, bids_read, lines_read, bids_said}
 use Rattle.hour.specs.Bytes.{lines_said, bid_at, line_at, in_first, items_read, market_of}
 use Rattle.hour.proofs.First.{first_same, else_none, else_none_left, else_none_right, when_none, when_false}
 
@@ -28,15 +28,20 @@ pub record Sound (bs : List ℕ) : Type 0 where
   pub lines : two bs 5 ≤ max_lines
   pub size : length bs ≡ size_said bs
 
-pub sound_head : (bs : List ℕ) → head_fault bs ≡ None → Sound bs
-sound_head bs none =
+-- numbers of zones, buys, sells and lines within the limits
+pub record Limited (bs : List ℕ) : Type 0 where
+  pub some_zone : 0 < byte bs 0
+  pub zones : byte bs 0 ≤ max_zones
+  pub buys : two bs 1 ≤ max_bids
+  pub sells : two bs 3 ≤ max_bids
+  pub lines : two bs 5 ≤ max_lines
+
+-- a head that has come whole and breaks no limit
+pub limited_head : (bs : List ℕ) → 7 ≤ length bs → limits_fault bs ≡ None → Limited bs
+limited_head bs long none =
     let after_zones = else_none_right (in_first 1 bs (zones_fault (byte bs 0))) _ none in
     let after_buys = else_none_right (in_first 3 bs (count_fault sorts.Buy (two bs 1))) _ after_zones in
     let after_sells = else_none_right (in_first 5 bs (count_fault sorts.Sell (two bs 3))) _ after_buys in
-    let after_lines = else_none_right (in_first 7 bs (count_fault sorts.Line (two bs 5))) _ after_sells in
-    let size : length bs ≡ size_said bs =
-    eqb-true _ _ (not-false _ (when_none (not (eqb (length bs) (size_said bs))) _ after_lines))
-    in
     let came : (n : ℕ) (fault : Option Refusal) → n ≤ 7 → in_first n bs fault ≡ None → fault ≡ None =
     λ n fault within at. sym (cond-true (leb n (length bs)) fault None (le-leb n (length bs) (omega arith))) ∙ at
     in
@@ -46,26 +51,52 @@ sound_head bs none =
       zones = ltb-false _ _ zones.1;
       buys = ltb-false _ _ (when_none _ _ (came 3 _ (omega arith) (else_none_left _ _ after_zones)));
       sells = ltb-false _ _ (when_none _ _ (came 5 _ (omega arith) (else_none_left _ _ after_buys)));
-      lines = ltb-false _ _ (when_none _ _ (came 7 _ (omega arith) (else_none_left _ _ after_sells)));
-      size = size;
+      lines = ltb-false _ _ (when_none _ _ (came 7 _ (omega arith) after_sells));
     }
 
-pub head_from_sound : (bs : List ℕ) → Sound bs → head_fault bs ≡ None
-head_from_sound bs sound =
+pub limits_from_limited : (bs : List ℕ) → Limited bs → limits_fault bs ≡ None
+limits_from_limited bs limited =
     let skip : (n : ℕ) (fault : Option Refusal) → fault ≡ None → in_first n bs fault ≡ None =
     λ n fault none. ap (λ (o : Option Refusal). in_first n bs o) none ∙ cond_same (leb n (length bs)) None
     in
     let zones : zones_fault (byte bs 0) ≡ None =
     when_false _ _
     (or_from _ _
-    (ne_eqb (byte bs 0) 0 (λ (e : byte bs 0 ≡ 0). absurd (omega (arith, sound.some_zone))))
-    (le-ltb _ _ sound.zones))
+    (ne_eqb (byte bs 0) 0 (λ (e : byte bs 0 ≡ 0). absurd (omega (arith, limited.some_zone))))
+    (le-ltb _ _ limited.zones))
     in
     else_none _ _ (skip 1 _ zones)
-    ∙ (else_none _ _ (skip 3 _ (when_false _ _ (le-ltb _ _ sound.buys)))
-    ∙ (else_none _ _ (skip 5 _ (when_false _ _ (le-ltb _ _ sound.sells)))
-    ∙ (else_none _ _ (skip 7 _ (when_false _ _ (le-ltb _ _ sound.lines)))
-    ∙ when_false _ _ (not_from_true _ (eq-eqb _ _ sound.size)))))
+    ∙ (else_none _ _ (skip 3 _ (when_false _ _ (le-ltb _ _ limited.buys)))
+    ∙ (else_none _ _ (skip 5 _ (when_false _ _ (le-ltb _ _ limited.sells)))
+    ∙ skip 7 _ (when_false _ _ (le-ltb _ _ limited.lines))))
+
+pub sound_head : (bs : List ℕ) → head_fault bs ≡ None → Sound bs
+sound_head bs none =
+    let size : length bs ≡ size_said bs =
+    eqb-true _ _ (not-false _ (when_none (not (eqb (length bs) (size_said bs))) _ (else_none_right (limits_fault bs) _ none)))
+    in
+    let limited = limited_head bs (omega arith) (else_none_left _ _ none) in
+    record {
+      some_zone = limited.some_zone;
+      zones = limited.zones;
+      buys = limited.buys;
+      sells = limited.sells;
+      lines = limited.lines;
+      size = size;
+    }
+
+pub head_from_sound : (bs : List ℕ) → Sound bs → head_fault bs ≡ None
+head_from_sound bs sound =
+    let limited : Limited bs =
+    record {
+      some_zone = sound.some_zone;
+      zones = sound.zones;
+      buys = sound.buys;
+      sells = sound.sells;
+      lines = sound.lines;
+    }
+    in
+    else_none _ _ (limits_from_limited bs limited) ∙ when_false _ _ (not_from_true _ (eq-eqb _ _ sound.size))
 
 -- what was read of a head is its fault, or what it says
 pub head_read_ok : (bs : List ℕ) (h : Head) → head_read bs ≡ Ok h → (head_fault bs ≡ None) × (h ≡ head_of bs)

@@ -1,6 +1,7 @@
 pub mod First
 pub mod Total
 pub mod Heads
+pub mod Fronts
 pub mod Kept
 pub mod Pasted
 pub mod Numbers

@@ -7,7 +7,8 @@
 --   market_of bs       the market that the bytes say
 --   size_said bs       how many bytes the counts ask for
 --   in_first n bs f    f, what is wrong with the first n bytes, looked at only where they have come
---   head_fault bs      the first fault of the head and the length: zones, counts, length
+--   limits_fault bs    the first rule that the numbers of zones, buys, sells and lines break, as far as they have come
+--   head_fault bs      the first fault of the head and the length: these limits, then the length
 --   head_of bs         the counts that the head says; head_read bs these, or the head's refusal
 --   needed_by h        how long slices have to be that hold the result of an hour with the head h
 --   bids_read, lines_read    the first rule that one of so many bids or lines breaks, read where they stand
@@ -70,12 +71,16 @@ size_said bs = line_place (two bs 1 + two bs 3) (two bs 5)
 abbrev pub in_first : ℕ → List ℕ → Option Refusal → Option Refusal
 in_first n bs fault = cond (nat_le n (length bs)) fault None
 
-abbrev pub head_fault : List ℕ → Option Refusal
-head_fault bs =
+abbrev pub limits_fault : List ℕ → Option Refusal
+limits_fault bs =
     in_first 1 bs (zones_fault (byte bs 0))
     else in_first 3 bs (count_fault sorts.Buy (two bs 1))
     else in_first 5 bs (count_fault sorts.Sell (two bs 3))
     else in_first 7 bs (count_fault sorts.Line (two bs 5))
+
+abbrev pub head_fault : List ℕ → Option Refusal
+head_fault bs =
+    limits_fault bs
     else when (not (length bs == size_said bs)) (Length (length bs))
 
 abbrev pub head_of : List ℕ → Head

@@ -9,4 +9,3 @@ pub mod Books
 pub mod Promises
 pub mod Seen
 pub mod Text
-pub mod Faults

@@ -3,6 +3,7 @@
 --   max_zones .. max_amount    the limits, all of them
 --   bid_place k          where the k-th bid stands in the bytes, buys first and then sells
 --   line_place b k       where the k-th line stands, behind b bids
+--   longest_hour         how many bytes the longest hour has that there can be
 --   zones_fault z        the rule on the number of zones
 --   most_of s            how many entries of a sort an hour has at most; count_fault s n the rule on their number n
 --   bid_fault z p b      the first rule that a bid b at place p breaks, in an hour of z zones: zone, price, amount
@@ -49,6 +50,9 @@ bid_place k = 7 + 7 * k
 
 abbrev pub line_place : ℕ → ℕ → ℕ
 line_place bids k = 7 + 7 * bids + 5 * k
+
+abbrev pub longest_hour : ℕ
+longest_hour = line_place (max_bids + max_bids) max_lines
 
 abbrev pub zones_fault : ℕ → Option Refusal
 zones_fault z = when (z == 0 || nat_lt max_zones z) (Zones z)

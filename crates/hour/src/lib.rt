@@ -4,7 +4,6 @@
 mod books;
 mod bytes;
 mod entries;
-mod input;
 mod items;
 mod money;
 pub mod promises;
@@ -17,16 +16,13 @@ mod writing;
 
 pub use books::Book;
 pub use entries::Entry;
-pub use input::{
-    Fault, Told, arguments, one_named, read_file, read_standard_input, status, tell, two_named,
-    write_answer,
-};
 pub use items::{Bid, Line};
 pub use money::{Hundredths, Price, ZERO_PRICE};
-pub use reading::{Head, check_items, read_head, refusal};
+pub use reading::{HEAD_SIZE, Head, check_items, check_limits, read_head, refusal};
 pub use refusals::{Refusal, Sort};
 pub use rules::{
-    Lengths, MAX_ZONES, check_bid, check_counts, check_lent, check_line, check_results,
+    LONGEST_HOUR, Lengths, MAX_BIDS, MAX_LINES, MAX_ZONES, check_bid, check_counts, check_lent,
+    check_line, check_results,
 };
 pub use text::listing;
 pub use view::Hour;

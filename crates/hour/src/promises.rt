@@ -1,5 +1,5 @@
 // What is promised of whole hours: each function's contract is one statement of specs/Promises.antt.
-ghost use Rattle.hour.specs.Promises.{ReadBack, WrittenBack, OnlyHours};
+ghost use Rattle.hour.specs.Promises.{ReadBack, WrittenBack, OnlyHours, FrontTells};
 
 pub fn what_is_written_is_read_back()
     ensures { ReadBack }
@@ -11,4 +11,8 @@ pub fn what_is_read_is_written_back()
 
 pub fn only_hours_are_taken()
     ensures { OnlyHours }
+{}
+
+pub fn front_tells_of_all()
+    ensures { FrontTells }
 {}

@@ -2,14 +2,18 @@
 ghost use Rattle.std.specs.Prelude.{◌≡◌, ◌+◌, ◌<◌, ◌≤◌, length, Ok, MatchOption};
 ghost use Rattle.std.specs.Result.{result_err};
 ghost use Rattle.hour.specs.First.{first};
-ghost use Rattle.hour.specs.Rules.{item_fault};
-ghost use Rattle.hour.specs.Bytes.{two, head_read, needed_by, market_of, refusal_of};
+ghost use Rattle.hour.specs.Refusals.{count_place};
+ghost use Rattle.hour.specs.Rules.{count_fault, item_fault};
+ghost use Rattle.hour.specs.Bytes.{two, in_first, limits_fault, head_read, needed_by, market_of, refusal_of};
 
 use crate::bytes::two_bytes;
 use crate::entries::Entry;
 use crate::items::{Bid, Line};
 use crate::refusals::{Refusal, Sort};
 use crate::rules::{Lengths, check_count, check_zones};
+
+/// How many bytes an hour's head has.
+pub const HEAD_SIZE: usize = 7;
 
 // The counts of an hour, as its first seven bytes say.
 #[derive(Clone, Copy, Debug, PartialEq, Eq)]
@@ -45,28 +49,48 @@ fn count_at(bytes: &[u8], i: usize) -> Option<u64>
     Some(two_bytes(bytes, i))
 }
 
-// The head and the length. Of a head that is cut short, what is there is checked.
+// The rule on the number of entries of a sort, looked at where the bytes of that number have come.
+fn check_count_of(bytes: &[u8], sort: Sort) -> Result<(), Refusal>
+    ensures { result_err result ≡ in_first (count_place sort + 2) bytes.now (count_fault sort (two bytes.now (count_place sort))) }
+{
+    match count_at(bytes, sort.count_place()) {
+        Some(count) => check_count(sort, count),
+        None => Ok(()),
+    }
+}
+
+/// The first rule that the numbers of zones, buys, sells and lines break. Of a head that is cut short, what is there is looked at.
+/// Whatever stands behind the head has no bearing on this.
+pub fn check_limits(bytes: &[u8]) -> Result<(), Refusal>
+    ensures { result_err result ≡ limits_fault bytes.now }
+{
+    if let Some(zones) = bytes.first() {
+        check_zones(u64::from(*zones))?;
+    }
+    check_count_of(bytes, Sort::Buy)?;
+    check_count_of(bytes, Sort::Sell)?;
+    check_count_of(bytes, Sort::Line)
+}
+
+/// The head and the length, or the first rule that they break.
 pub fn read_head(bytes: &[u8]) -> Result<Head, Refusal>
     ensures { result ≡ head_read bytes.now }
 {
+    check_limits(bytes)?;
     let cut = Refusal::Length { came: bytes.len() };
-    let zones = u64::from(*bytes.first().ok_or(cut)?);
-    check_zones(zones)?;
-    let buys = count_at(bytes, 1).ok_or(cut)?;
-    check_count(Sort::Buy, buys)?;
-    let sells = count_at(bytes, 3).ok_or(cut)?;
-    check_count(Sort::Sell, sells)?;
-    let lines = count_at(bytes, 5).ok_or(cut)?;
-    check_count(Sort::Line, lines)?;
-    if bytes.len() as u64 != 7 + 7 * (buys + sells) + 5 * lines {
+    if bytes.len() < HEAD_SIZE {
         return Err(cut);
     }
-    Ok(Head {
-        zones,
-        buys,
-        sells,
-        lines,
-    })
+    let head = Head {
+        zones: u64::from(bytes[0]),
+        buys: two_bytes(bytes, 1),
+        sells: two_bytes(bytes, 3),
+        lines: two_bytes(bytes, 5),
+    };
+    if bytes.len() as u64 != 7 + 7 * (head.buys + head.sells) + 5 * head.lines {
+        return Err(cut);
+    }
+    Ok(head)
 }
 
 // The first rule that one of `count` entries breaks, which stand behind so many bids. Entries in a list have the same loop in

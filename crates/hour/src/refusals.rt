@@ -16,7 +16,7 @@ pub enum Sort {
 
 impl Sort {
     // The byte at which an hour has the count of a sort.
-    fn count_place(self) -> usize
+    pub(crate) fn count_place(self) -> usize
         ensures { result ≡ count_place self }
     {
         match self {

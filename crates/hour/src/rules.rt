@@ -17,6 +17,9 @@ pub const MAX_PRICE: u64 = 400_000;
 
 pub const MAX_AMOUNT: u64 = 1_000_000;
 
+/// How many bytes the longest hour has that there can be.
+pub const LONGEST_HOUR: usize = (7 + 7 * (MAX_BIDS + MAX_BIDS) + 5 * MAX_LINES) as usize;
+
 impl Sort {
     // How many entries of a sort an hour has at most.
     fn most(self) -> u64
