@@ -12,5 +12,5 @@ mod worth;
 
 pub use entry::clear;
 pub use money::{price_above, price_below};
-pub use publish::published;
+pub use publish::{Publication, published, published_refusal};
 pub use worth::worth_in;

@@ -1,6 +1,6 @@
 // What is published of an hour, from its bytes to its text.
-ghost use Rattle.std.specs.Prelude.{◌≡◌, [], ◌∷◌, IfOk, Ok, string_bytes};
-ghost use Rattle.hour.specs.Bytes.{head_read};
+ghost use Rattle.std.specs.Prelude.{◌≡◌, [], ◌∷◌, false, is_none, IfOk, Ok, string_bytes};
+ghost use Rattle.hour.specs.Bytes.{head_read, refusal_of};
 ghost use Rattle.hour.specs.Text.{row, refused};
 ghost use Rattle.ledger.specs.Published.{Published};
 
@@ -11,16 +11,32 @@ use hour::{Head, Hour, Refusal, read_head};
 use network::Amounts;
 use std::alloc::{AllocError, Global};
 
-fn refusal_row(heap: Global, refusal: Refusal) -> Result<String, AllocError>
-    ensures { IfOk result (λ t. string_bytes t ≡ row (refused refusal ∷ [])) }
-{
-    format!(in heap; "{refusal}\n")
+/// What is published of an hour's bytes.
+#[derive(Drop)]
+pub struct Publication {
+    /// The result of the hour, or the row of its refusal.
+    pub text: String,
+    /// Whether the hour was cleared; otherwise it was refused.
+    pub cleared: bool,
 }
 
-// The text of an hour whose head is sound, cleared in slices that are just long enough.
-fn cleared_text(heap: Global, bytes: &[u8], head: Head) -> Result<String, AllocError>
+/// What is published of bytes that are refused. An error is want of memory.
+pub fn published_refusal(heap: Global, refusal: Refusal) -> Result<Publication, AllocError>
+    ensures text { IfOk result (λ p. string_bytes p.text ≡ row (refused refusal ∷ [])) }
+    ensures cleared { IfOk result (λ p. p.cleared ≡ false) }
+{
+    let text = format!(in heap; "{refusal}\n")?;
+    Ok(Publication {
+        text,
+        cleared: false,
+    })
+}
+
+// What is published of an hour whose head is sound, cleared in slices that are just long enough.
+fn published_whole(heap: Global, bytes: &[u8], head: Head) -> Result<Publication, AllocError>
     requires { head_read bytes.now ≡ Ok head }
-    ensures { IfOk result (λ t. Published bytes.now (string_bytes t)) }
+    ensures text { IfOk result (λ p. Published bytes.now (string_bytes p.text)) }
+    ensures cleared { IfOk result (λ p. p.cleared ≡ is_none (refusal_of bytes.now)) }
 {
     let items = (head.buys + head.sells + head.lines) as usize;
     let mut bought = vec![in heap; 0u64; head.buys as usize]?;
@@ -39,7 +55,7 @@ fn cleared_text(heap: Global, bytes: &[u8], head: Head) -> Result<String, AllocE
         work.as_mut_slice(),
     );
     match cleared {
-        Err(refusal) => refusal_row(heap, refusal),
+        Err(refusal) => published_refusal(heap, refusal),
         Ok(pushes) => {
             let cleared = Cleared {
                 hour: Hour::of(bytes),
@@ -50,17 +66,22 @@ fn cleared_text(heap: Global, bytes: &[u8], head: Head) -> Result<String, AllocE
                 },
                 prices: price.as_slice(),
             };
-            result_text(heap, cleared, pushes, ledger.as_slice())
+            let text = result_text(heap, cleared, pushes, ledger.as_slice())?;
+            Ok(Publication {
+                text,
+                cleared: true,
+            })
         }
     }
 }
 
-// What is published of any bytes: the row of their refusal, or the result of the hour that they say. An error is want of memory.
-pub fn published(heap: Global, bytes: &[u8]) -> Result<String, AllocError>
-    ensures { IfOk result (λ t. Published bytes.now (string_bytes t)) }
+/// What is published of any bytes: the row of their refusal, or the result of the hour that they say. An error is want of memory.
+pub fn published(heap: Global, bytes: &[u8]) -> Result<Publication, AllocError>
+    ensures text { IfOk result (λ p. Published bytes.now (string_bytes p.text)) }
+    ensures cleared { IfOk result (λ p. p.cleared ≡ is_none (refusal_of bytes.now)) }
 {
     match read_head(bytes) {
-        Ok(head) => cleared_text(heap, bytes, head),
-        Err(refusal) => refusal_row(heap, refusal),
+        Ok(head) => published_whole(heap, bytes, head),
+        Err(refusal) => published_refusal(heap, refusal),
     }
 }

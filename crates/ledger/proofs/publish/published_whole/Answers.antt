@@ -1,8 +1,7 @@
 -- What was cleared and booked in the lent slices is read from the vectors again.
-use Rattle.std.proofs.Common.{refl, string_bytes, rules}
-use Rattle.std.proofs.lemmas.Result.{IfOk-weaker}
+use Rattle.std.proofs.Common.{refl, rules}
 use Rattle.ledger.proofs.Publishing.{again, shown}
-use Rattle.ledger.proofs.publish.cleared_text.Goals as goal
+use Rattle.ledger.proofs.publish.published_whole.Goals as goal
 
 pub invariant_of-cleared : goal.invariant_of-cleared
 invariant_of-cleared c =
@@ -27,8 +26,8 @@ result_text-requires-clause-ledger c =
     (again _ all.price c.as_mut_slice-4.ensures.len c.as_slice-in-Ok-3.ensures.value) ledger.same in
     there.booked
 
-pub returns : goal.returns
-returns c =
+pub returns-clause-text : goal.returns-clause-text
+returns-clause-text c =
     let done = c.in-Ok.ensures in
     let all = c.clear-cleared.auto in
     let there = shown c.requires (search rules) done.refusal done.found done.rows c.of.ensures
@@ -36,4 +35,4 @@ returns c =
     (again _ all.sold c.as_mut_slice-2.ensures.len c.as_slice-in-Ok.ensures.value)
     (again _ all.flow c.as_mut_slice-3.ensures.len c.as_slice-in-Ok-2.ensures.value)
     (again _ all.price c.as_mut_slice-4.ensures.len c.as_slice-in-Ok-3.ensures.value) refl in
-    IfOk-weaker c.result_text.result _ _ (λ t. there.says (string_bytes t)) c.result_text.ensures
+    there.says _ c.in_ok-text-in-Ok.ensures
