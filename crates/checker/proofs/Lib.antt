@@ -17,3 +17,4 @@ pub mod Back
 pub mod RowsBack
 pub mod TextBack
 pub mod HouseText
+pub mod Cut

@@ -20,13 +20,16 @@
 --   rows_of n s           how many rows a sort has; first_line n s the line at which they begin; last_line n the one behind all
 --                         rows
 --   text_at n bs          what a text for so many zones, buys, sells and lines says; or its first line that is not in the form
+--   longest_row           no row in the form has more bytes: the words of a line's row, two numbers of 64 bits, one with a sign
+--   longest_text          no text in the form has more bytes: a row for the worth, and for the most zones, buys, sells and lines
 --   prices_seen, table_seen, said_seen
 --                         the same where the code has them
 --   Stopped               a line is the one that a definition says, and of want of memory nothing is said
 --   AnswersAs r seen d    an answer is what a definition says, unless memory was wanting
 --
 -- Lines count from 1. A line that is missing is the one behind the last; so is text behind the last row.
-use Rattle.std.specs.Prelude.{◌≡◌, ℕ, zero, suc, ◌+◌, List, [], ◌∷◌, ◌++◌, ℤ, Some, None, Ok, Err, vec_items, codes, Result, MatchResult}
+use Rattle.std.specs.Prelude.{◌≡◌, ℕ, zero, suc, ◌+◌, ◌*◌, List, [], ◌∷◌, ◌++◌, ℤ, Some, None, Ok, Err, vec_items, codes, Result, MatchResult}
+use Rattle.hour.specs.Rules.{max_zones, max_bids, max_lines}
 use Rattle.hour.specs.declared.refusals.Sort.{Sort}
 use Rattle.hour.specs.declared.refusals.Sort.TheVariants as sorts
 use Rattle.checker.specs.Reading.{Read, ◌then◌, after, number, whole, index, price, largest}
@@ -154,6 +157,12 @@ text_at n bs =
     items_at sorts.Sell (first_line n sorts.Sell) n.sells b.rest ok_then λ s.
     items_at sorts.Line (first_line n sorts.Line) n.lines s.rest ok_then λ l.
     ended (last_line n) l.rest (saying w.0 z b s l)
+
+abbrev pub longest_row : ℕ
+longest_row = 102
+
+abbrev pub longest_text : ℕ
+longest_text = longest_row * (1 + max_zones + max_bids + max_bids + max_lines)
 
 abbrev pub prices_seen : Zones → Prices
 prices_seen t = priced (vec_items t.prices) t.rest.now

@@ -15,13 +15,17 @@
 --   Says m o ps n t      a text says the amounts, the prices, the money of each row, the worth and the count of pushes
 --   ReadsBack m o ps n   the text of an outcome is read, and says that
 --   ReadBack             what is published of an outcome and its prices is read as just that
+--   WithinLimits n       no more zones, buys, sells and lines than an hour may have
+--   NoLonger             no text in the form has more bytes than longest_text
+--   FrontRead            what is read of a text with more bytes is what is read of any front of it that has more
+--   FrontReported        what is reported of such a text is what is reported of such a front
 --
 -- Of two sides of an order, what is subtracted stands on the other side: naturals only.
-use Rattle.std.specs.Prelude.{◌≡◌, ℕ, ◌+◌, ◌^◌, ◌<◌, ◌≤◌, List, length, None, Ok, Option, Result}
+use Rattle.std.specs.Prelude.{◌≡◌, ℕ, ◌+◌, ◌^◌, ◌<◌, ◌≤◌, ◌↔◌, List, ◌++◌, length, None, Ok, Option, Result}
 use Rattle.hour.specs.Bytes.{market_of, refusal_of}
 use Rattle.hour.specs.Listed.{listed}
 use Rattle.hour.specs.Market.{Market, Outcome, Feasible, Settled, at, worth, count_of}
-use Rattle.hour.specs.Rules.{KeepsRules}
+use Rattle.hour.specs.Rules.{KeepsRules, max_zones, max_bids, max_lines}
 use Rattle.hour.specs.declared.refusals.Sort.{Sort}
 use Rattle.hour.specs.declared.refusals.Sort.TheVariants as sorts
 use Rattle.network.specs.Network.{carried}
@@ -34,9 +38,10 @@ use Rattle.ledger.specs.Published as texts
 use Rattle.ledger.specs.Text.{result_of}
 use Rattle.checker.specs.Acceptance.{verdict_of}
 use Rattle.checker.specs.Follows.{counts_in}
-use Rattle.checker.specs.Form.{Saying, Table, text_at}
+use Rattle.checker.specs.Form.{Saying, Table, text_at, longest_text}
 use Rattle.checker.specs.Marks.{lowness_of, Left}
 use Rattle.checker.specs.Telling.{Reports}
+use Rattle.checker.specs.declared.form.Counts.{Counts}
 use Rattle.checker.specs.declared.reports.Report.{Report}
 use Rattle.checker.specs.declared.reports.Report.TheVariants as reports
 use Rattle.checker.specs.declared.verdict.Objection.{Objection}
@@ -116,3 +121,21 @@ abbrev pub HouseText : Type 0
 HouseText =
     (bs text : List ℕ) (r : Report) → refusal_of bs ≡ None → texts.Published bs text → Reports bs text r →
     r ≡ reports.Accepted None
+
+pub record WithinLimits (n : Counts) : Type 0 where
+  pub zones : n.zones ≤ max_zones
+  pub buys : n.buys ≤ max_bids
+  pub sells : n.sells ≤ max_bids
+  pub lines : n.lines ≤ max_lines
+
+abbrev pub NoLonger : Type 0
+NoLonger = (n : Counts) (bs : List ℕ) (t : Saying) → WithinLimits n → text_at n bs ≡ Ok t → length bs ≤ longest_text
+
+abbrev pub FrontRead : Type 0
+FrontRead =
+    (n : Counts) (front more : List ℕ) → WithinLimits n → longest_text < length front →
+    text_at n (front ++ more) ≡ text_at n front
+
+abbrev pub FrontReported : Type 0
+FrontReported =
+    (bs front more : List ℕ) (r : Report) → longest_text < length front → (Reports bs (front ++ more) r ↔ Reports bs front r)

@@ -7,8 +7,17 @@ ghost use Rattle.checker.specs.Form.{phrasing, phrased, worth_at, zone_at, row_a
 ghost use Rattle.checker.specs.Form.{rows_of, first_line, last_line, text_at, prices_seen, table_seen, said_seen, AnswersAs};
 
 use crate::reading::{after, amount, index, price, whole};
-use hour::Sort;
+use hour::{MAX_BIDS, MAX_LINES, MAX_ZONES, Sort};
 use std::alloc::{AllocError, AllocFailed, Global};
+
+// No row in the form has more bytes. A row of a line has the longest words, of 5, 9 and 7; the number of the line and its amount
+// have at most 20 digits each, its money a minus and 39; and there is the line break.
+const LONGEST_ROW: usize = 5 + 20 + 9 + 20 + 7 + 40 + 1;
+
+/// No text in the form has more bytes, of any hour. What is read of a longer text is what is read of any front of it that is also
+/// longer than this, so nobody has to read on.
+pub const LONGEST_TEXT: usize = LONGEST_ROW
+    * (1 + MAX_ZONES as usize + MAX_BIDS as usize + MAX_BIDS as usize + MAX_LINES as usize);
 
 // What stands around the numbers in a row of a sort.
 #[derive(Clone, Copy)]

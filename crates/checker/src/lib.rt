@@ -18,7 +18,7 @@ mod telling;
 mod verdict;
 
 pub use accept::check;
-pub use form::{Counts, Rows, Said, Stop, Zones, read_text};
+pub use form::{Counts, LONGEST_TEXT, Rows, Said, Stop, Zones, read_text};
 pub use ranking::lowest;
 pub use reports::{Report, Wrong};
 pub use telling::report_on;
