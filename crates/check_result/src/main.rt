@@ -1,50 +1,50 @@
-// check_result HOUR RESULT: says whether a published result of an hour stands. Status 0 where it is accepted, its prices are the lowest
-// and all its rows follow.
+//! check_result HOUR PUBLISHED: says whether a published result of an hour stands.
 #![tactic(auto)]
 
-ghost use Rattle.std.specs.Prelude.{◌≡◌, [], ◌∷◌, IfOk, cond, string_bytes};
-ghost use Rattle.std.specs.Process.{exit_status};
-ghost use Rattle.checker.specs.Reports.{report_shown};
-ghost use Rattle.hour.specs.Text.{row};
-
-use checker::{Report, report_on};
-use hour::{Fault, arguments, read_file, status, tell, two_named, write_answer};
+use anyhow::Result;
+use clap::{Arg, ArgAction, ArgMatches, Command};
+use office::{Source, Status, VERSION, check_published, end, end_answer, end_call, words};
 use std::alloc::{AllocError, Global};
+use std::io;
 use std::process::ExitCode;
 
-fn answer(heap: Global, report: Report) -> Result<String, AllocError>
-    ensures { IfOk result (λ t. string_bytes t ≡ row (report_shown report ∷ [])) }
-{
-    format!(in heap; "{report}\n")
+const PROGRAM: &str = "check_result";
+
+fn command<'a>(heap: Global) -> std::result::Result<Command<'a>, AllocError> {
+    let hour = Arg::new(heap, "HOUR")
+        .required(true)
+        .action(ArgAction::Set)
+        .help("The file of the hour; - is standard input");
+    let published = Arg::new(heap, "PUBLISHED")
+        .required(true)
+        .action(ArgAction::Set)
+        .help("The file of the result as it was published; - is standard input");
+    Command::new(heap, PROGRAM)
+        .version(VERSION)
+        .about(
+            "Says whether a published result of an hour stands. Status: 0 it stands, 1 it does not, 2 trouble.",
+        )
+        .arg(hour)?
+        .arg(published)
 }
 
-// Whether the result stands, once that is said.
-fn run(rt: &HostRuntime) -> Result<bool, Fault> {
-    let (hour, result) = two_named(arguments(rt)?)?;
-    let bytes = read_file(rt, hour)?;
-    let text = read_file(rt, result)?;
-    let report = report_on(rt.alloc(), bytes.as_slice(), text.as_slice())?;
-    let answer = answer(rt.alloc(), report)?;
-    write_answer(rt, answer.as_str())?;
-    Ok(report.stands())
+fn check(rt: &HostRuntime, found: &ArgMatches<'_>) -> Result<Status> {
+    let mut hour = Source::open(rt, found.get_str("HOUR").unwrap_or("-"))?;
+    let mut text = Source::open(rt, found.get_str("PUBLISHED").unwrap_or("-"))?;
+    let answer = check_published(rt.alloc(), &mut hour, &mut text, &mut io::writer(rt))?;
+    Ok(end_answer(rt, PROGRAM, answer))
 }
 
-// The status once the answer is given: 0 where the result stands, and else 1.
-fn status_of(stands: bool) -> ExitCode
-    ensures { exit_status result ≡ cond stands 0 1 }
-{
-    if stands {
-        ExitCode::SUCCESS
-    } else {
-        ExitCode::FAILURE
+fn run(rt: &HostRuntime) -> Result<Status> {
+    let words = words(rt)?;
+    match command(rt.alloc())?.try_get_matches_from(words.as_slice()) {
+        Ok(found) => check(rt, &found),
+        Err(error) => end_call(rt, error),
     }
 }
 
 fn main(rt: HostRuntime) -> ExitCode {
-    match run(&rt) {
-        Ok(stands) => status_of(stands),
-        Err(fault) => status(tell(&rt, "check_result", "check_result HOUR RESULT", Err(fault))),
-    }
+    end(&rt, PROGRAM, run(&rt))
 }
 
 #[cfg(test)]

@@ -1,21 +1,57 @@
-// clear [HOUR]: reads an hour, from standard input where none is named, and clears it or says why it is refused.
+//! clear [-o FILE] [HOUR]: clears an hour, or says why it is refused.
 #![tactic(auto)]
 
-use hour::{
-    Fault, arguments, one_named, read_file, read_standard_input, status, tell, write_answer,
+use anyhow::Result;
+use clap::{Arg, ArgAction, ArgMatches, Command};
+use office::{
+    Source, Status, VERSION, clear_hour, clear_to_file, end, end_answer, end_call, words,
 };
-use ledger::published;
+use std::alloc::{AllocError, Global};
+use std::io;
 use std::process::ExitCode;
 
-fn run(rt: &HostRuntime) -> Result<(), Fault> {
-    let bytes = match one_named(arguments(rt)?)? {
-        Some(name) => read_file(rt, name)?,
-        None => read_standard_input(rt)?,
+const PROGRAM: &str = "clear";
+
+fn command<'a>(heap: Global) -> std::result::Result<Command<'a>, AllocError> {
+    let hour = Arg::new(heap, "HOUR").action(ArgAction::Set).help(
+        "The file of the hour; standard input where it is - or not given",
+    );
+    let output = Arg::new(heap, "FILE")
+        .short('o')
+        .long("output")
+        .value_name("FILE")
+        .help("Writes the result there once it is whole, and not to standard output");
+    Command::new(heap, PROGRAM)
+        .version(VERSION)
+        .about(
+            "Clears one hour of a power market, or says why it is refused. Status: 0 cleared, 1 refused, 2 trouble.",
+        )
+        .arg(output)?
+        .arg(hour)
+}
+
+fn clear(rt: &HostRuntime, found: &ArgMatches<'_>) -> Result<Status> {
+    let mut hour = Source::open(rt, found.get_str("HOUR").unwrap_or("-"))?;
+    let answer = match found.get_str("FILE") {
+        Some(name) => clear_to_file(rt, &mut hour, name)?,
+        None => clear_hour(
+            rt.alloc(),
+            &mut hour,
+            &mut io::writer(rt),
+            &mut io::writer(rt),
+        )?,
     };
-    let text = published(rt.alloc(), bytes.as_slice())?;
-    write_answer(rt, text.as_str())
+    Ok(end_answer(rt, PROGRAM, answer))
+}
+
+fn run(rt: &HostRuntime) -> Result<Status> {
+    let words = words(rt)?;
+    match command(rt.alloc())?.try_get_matches_from(words.as_slice()) {
+        Ok(found) => clear(rt, &found),
+        Err(error) => end_call(rt, error),
+    }
 }
 
 fn main(rt: HostRuntime) -> ExitCode {
-    status(tell(&rt, "clear", "clear [HOUR]", run(&rt)))
+    end(&rt, PROGRAM, run(&rt))
 }

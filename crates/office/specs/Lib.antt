@@ -1,0 +1,6 @@
+pub mod Reading
+pub mod Writing
+pub mod Hints
+pub mod Status
+pub mod Clearing
+pub mod Checking
