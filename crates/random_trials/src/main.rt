@@ -15,9 +15,9 @@ use crate::draws::Draws;
 use crate::small::Small;
 use crate::strings::Strings;
 use crate::trial::{Alike, try_hour};
-use hour::{Fault, arguments, status, tell, write_answer};
-use std::fmt;
+use anyhow::{Context, Result, bail};
 use std::process::ExitCode;
+use std::{env, fmt};
 
 const HOURS: u64 = 300;
 
@@ -75,25 +75,28 @@ impl fmt::Display for Tally {
 }
 
 // How many hours, and from which seed.
-fn called(rt: &HostRuntime) -> Result<(u64, u64), Fault> {
-    let mut args = arguments(rt)?;
+fn called(rt: &HostRuntime) -> Result<(u64, u64)> {
+    let mut args = env::args(rt)?;
+    let _program = args.next();
     let hours = number_or(args.next(), HOURS)?;
     let seed = number_or(args.next(), SEED)?;
     if args.next().is_some() {
-        return Err(Fault::Call);
+        bail!("usage: random_trials [HOURS [SEED]]");
     }
     Ok((hours, seed))
 }
 
-fn number_or(word: Option<String>, absent: u64) -> Result<u64, Fault> {
+fn number_or(word: Option<String>, absent: u64) -> Result<u64> {
     let Some(word) = word else {
         return Ok(absent);
     };
-    word.as_str().parse::<u64>().map_err(|_| Fault::Call)
+    word.as_str()
+        .parse::<u64>()
+        .context("usage: random_trials [HOURS [SEED]]")
 }
 
 // Whether all were alike, once that is said.
-fn small_hours(rt: &HostRuntime, draws: &mut Draws, hours: u64) -> Result<bool, Fault> {
+fn small_hours(rt: &HostRuntime, draws: &mut Draws, hours: u64) -> Result<bool> {
     let heap = rt.alloc();
     let mut tally = Tally::default();
     let mut all_alike = true;
@@ -104,31 +107,25 @@ fn small_hours(rt: &HostRuntime, draws: &mut Draws, hours: u64) -> Result<bool, 
         tally.add(alike);
         if !alike.all() {
             all_alike = false;
-            write_answer(
-                rt,
-                format!(in heap; "hour {number} is not alike: {bytes:?}\n")?.as_str(),
-            )?;
+            println!(rt; "hour {number} is not alike: {bytes:?}")?;
         }
     }
-    write_answer(rt, format!(in heap; "{tally}\n")?.as_str())?;
+    println!(rt; "{tally}")?;
     Ok(all_alike)
 }
 
 // Whether each was as it should be, once that is said.
-fn byte_strings(rt: &HostRuntime, draws: &mut Draws, count: u64) -> Result<bool, Fault> {
+fn byte_strings(rt: &HostRuntime, draws: &mut Draws, count: u64) -> Result<bool> {
     let heap = rt.alloc();
     let mut strings = Strings::default();
     for _ in 0..count {
         strings.try_one(heap, draws)?;
     }
-    write_answer(
-        rt,
-        format!(in heap; "{count} byte strings: {strings}\n")?.as_str(),
-    )?;
+    println!(rt; "{count} byte strings: {strings}")?;
     Ok(strings.right())
 }
 
-fn run(rt: &HostRuntime) -> Result<bool, Fault> {
+fn run(rt: &HostRuntime) -> Result<bool> {
     let (hours, seed) = called(rt)?;
     let mut draws = Draws::new(seed);
     let alike = small_hours(rt, &mut draws, hours)?;
@@ -136,15 +133,10 @@ fn run(rt: &HostRuntime) -> Result<bool, Fault> {
     Ok(alike && right)
 }
 
-fn main(rt: HostRuntime) -> ExitCode {
-    match run(&rt) {
-        Ok(true) => ExitCode::SUCCESS,
-        Ok(false) => ExitCode::FAILURE,
-        Err(fault) => status(tell(
-            &rt,
-            "random_trials",
-            "random_trials [HOURS [SEED]]",
-            Err(fault),
-        )),
+fn main(rt: HostRuntime) -> Result<ExitCode> {
+    if run(&rt)? {
+        Ok(ExitCode::SUCCESS)
+    } else {
+        Ok(ExitCode::FAILURE)
     }
 }

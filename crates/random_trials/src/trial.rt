@@ -79,7 +79,7 @@ fn worth_alike(
     o: &Outcome,
     best: i64,
 ) -> Result<bool, AllocError> {
-    let text = published(heap, bytes)?;
+    let text = published(heap, bytes)?.text;
     let start = format!(in heap; "worth {best} pushes ")?;
     Ok(text.as_str().starts_with(start.as_str()) && worth(small, o) == best)
 }

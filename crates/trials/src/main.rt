@@ -19,12 +19,12 @@ use crate::limits::{Counts, hour_of};
 use crate::samples::{ODD, REFUSED, WORKED, sample};
 use crate::sums::largest_hour;
 use crate::tables::{one_buy, same_on_tables};
+use anyhow::Result;
 use checker::report_on;
-use hour::{Fault, Hour, listing, status, tell, write_answer};
+use hour::{Hour, listing};
 use ledger::published;
 use lent::Slice;
 use std::alloc::{AllocError, Global};
-use std::process::ExitCode;
 
 const LIMITS: [Counts; 6] = [
     Counts {
@@ -85,18 +85,15 @@ fn tables_word(same: bool) -> &'static str {
 }
 
 // What is published of each hour that breaks a rule, and whether its listing is another.
-fn refused_hours(rt: &HostRuntime) -> Result<(), Fault> {
+fn refused_hours(rt: &HostRuntime) -> Result<()> {
     let heap = rt.alloc();
     for name in REFUSED {
         let bytes = sample(rt, "refused", name)?;
-        let told = published(heap, bytes.as_slice())?;
+        let told = published(heap, bytes.as_slice())?.text;
         let listed = listing(heap, bytes.as_slice())?;
-        write_answer(rt, format!(in heap; "{name} {told}")?.as_str())?;
+        print!(rt; "{name} {told}")?;
         if listed.as_str() != told.as_str() {
-            write_answer(
-                rt,
-                format!(in heap; "{name} is listed as {listed}")?.as_str(),
-            )?;
+            print!(rt; "{name} is listed as {listed}")?;
         }
     }
     Ok(())
@@ -104,28 +101,25 @@ fn refused_hours(rt: &HostRuntime) -> Result<(), Fault> {
 
 // What sample hours of one kind say and come to, whether they are written back as they were read, and whether their sums close; what the
 // checker says of what is published, and of results that differ from it by one unit; whether their tables come to the same.
-fn sample_hours(rt: &HostRuntime, kind: &str, names: &[&str]) -> Result<(), Fault> {
+fn sample_hours(rt: &HostRuntime, kind: &str, names: &[&str]) -> Result<()> {
     let heap = rt.alloc();
     for name in names {
         let bytes = sample(rt, kind, name)?;
         let listed = listing(heap, bytes.as_slice())?;
         let copied = copy_word(written_back(heap, bytes.as_slice())?);
-        let result = published(heap, bytes.as_slice())?;
+        let result = published(heap, bytes.as_slice())?.text;
         let closes = closing_word(heap, bytes.as_slice())?;
         let report = report_on(heap, bytes.as_slice(), result.as_str().as_bytes())?;
         let changed = changed_by_one(heap, bytes.as_slice())?;
         let tables = tables_word(same_on_tables(heap, bytes.as_slice())?);
-        write_answer(
-            rt,
-            format!(in heap;
-                "{kind} {name}\n{listed}{copied}\n{result}{closes}\n{report}\n{changed}\n{tables}\n"
-            )?.as_str(),
+        println!(rt;
+            "{kind} {name}\n{listed}{copied}\n{result}{closes}\n{report}\n{changed}\n{tables}"
         )?;
     }
     Ok(())
 }
 
-fn counts_read(heap: Global, bytes: &[u8]) -> Result<String, AllocError> {
+fn counts_read(heap: Global, bytes: &[u8]) -> std::result::Result<String, AllocError> {
     match Hour::try_from(bytes) {
         Ok(hour) => {
             let zones = hour.zones();
@@ -140,82 +134,66 @@ fn counts_read(heap: Global, bytes: &[u8]) -> Result<String, AllocError> {
 
 // Only the first two rows of what is published, the worth and a price, since of these hours the others are thousands; whether the sums
 // close, and what the checker says of all rows.
-fn write_large(rt: &HostRuntime, bytes: &[u8]) -> Result<(), Fault> {
+fn write_large(rt: &HostRuntime, bytes: &[u8]) -> Result<()> {
     let heap = rt.alloc();
-    let result = published(heap, bytes)?;
+    let result = published(heap, bytes)?.text;
     let closes = closing_word(heap, bytes)?;
     let report = report_on(heap, bytes, result.as_str().as_bytes())?;
     for row in result.as_str().lines().take(2) {
-        write_answer(rt, format!(in heap; "{row}\n")?.as_str())?;
+        println!(rt; "{row}")?;
     }
-    write_answer(rt, format!(in heap; "{closes}\n{report}\n")?.as_str())
+    println!(rt; "{closes}\n{report}")?;
+    Ok(())
 }
 
-fn hours_at_limits(rt: &HostRuntime) -> Result<(), Fault> {
+fn hours_at_limits(rt: &HostRuntime) -> Result<()> {
     let heap = rt.alloc();
     for counts in LIMITS {
         let bytes = hour_of(heap, counts)?;
         let text = counts_read(heap, bytes.as_slice())?;
         let copied = copy_word(written_back(heap, bytes.as_slice())?);
-        write_answer(rt, format!(in heap; "{text}{copied}\n")?.as_str())?;
+        println!(rt; "{text}{copied}")?;
         write_large(rt, bytes.as_slice())?;
     }
     Ok(())
 }
 
-fn largest_hours(rt: &HostRuntime) -> Result<(), Fault> {
+fn largest_hours(rt: &HostRuntime) -> Result<()> {
     let heap = rt.alloc();
     for (buys, sells) in LARGEST {
         let bytes = largest_hour(heap, buys, sells)?;
-        write_answer(
-            rt,
-            format!(in heap; "buys {buys} sells {sells}\n")?.as_str(),
-        )?;
+        println!(rt; "buys {buys} sells {sells}")?;
         write_large(rt, bytes.as_slice())?;
     }
     Ok(())
 }
 
-fn short_slices(rt: &HostRuntime) -> Result<(), Fault> {
+fn short_slices(rt: &HostRuntime) -> Result<()> {
     let heap = rt.alloc();
     let bytes = sample(rt, "worked", "E")?;
     for (number, slice) in Slice::ALL.iter().enumerate() {
         let said = one_short(heap, bytes.as_slice(), *slice)?;
-        write_answer(
-            rt,
-            format!(in heap; "slice {number} short {said}")?.as_str(),
-        )?;
+        print!(rt; "slice {number} short {said}")?;
     }
     Ok(())
 }
 
 // A table that has a number too many, and a bid of nothing.
-fn refused_tables(rt: &HostRuntime) -> Result<(), Fault> {
+fn refused_tables(rt: &HostRuntime) -> Result<()> {
     let heap = rt.alloc();
     let ragged = one_buy(heap, &[0, 30, 10, 0])?;
-    write_answer(rt, format!(in heap; "table of 4 {ragged}")?.as_str())?;
+    print!(rt; "table of 4 {ragged}")?;
     let nothing = one_buy(heap, &[0, 30, 0])?;
-    write_answer(
-        rt,
-        format!(in heap; "table of a bid of 0 {nothing}")?.as_str(),
-    )
+    print!(rt; "table of a bid of 0 {nothing}")?;
+    Ok(())
 }
 
-fn run(rt: &HostRuntime) -> Result<(), Fault> {
-    refused_hours(rt)?;
-    sample_hours(rt, "worked", &WORKED)?;
-    sample_hours(rt, "odd", &ODD)?;
-    hours_at_limits(rt)?;
-    largest_hours(rt)?;
-    short_slices(rt)?;
-    refused_tables(rt)
-}
-
-fn main(rt: HostRuntime) -> ExitCode {
-    status(tell(
-        &rt,
-        "trials",
-        "trials, where refused/, worked/ and odd/ stand",
-        run(&rt),
-    ))
+fn main(rt: HostRuntime) -> Result<()> {
+    refused_hours(&rt)?;
+    sample_hours(&rt, "worked", &WORKED)?;
+    sample_hours(&rt, "odd", &ODD)?;
+    hours_at_limits(&rt)?;
+    largest_hours(&rt)?;
+    short_slices(&rt)?;
+    refused_tables(&rt)
 }

@@ -1,5 +1,6 @@
 // The sample hours: their names, and their bytes.
-use hour::{Fault, read_file};
+use anyhow::{Context, Result};
+use std::fs;
 
 // Those that break a rule, by what is wrong with them.
 pub const REFUSED: [&str; 54] = [
@@ -74,6 +75,7 @@ pub const ODD: [&str; 9] = [
 ];
 
 // The bytes of a sample of one kind, which lies in a folder of that name; no clause can say what a file gives.
-pub fn sample(rt: &HostRuntime, kind: &str, name: &str) -> Result<Vec<u8>, Fault> {
-    read_file(rt, format!(in rt.alloc(); "{kind}/{name}.bin")?)
+pub fn sample(rt: &HostRuntime, kind: &str, name: &str) -> Result<Vec<u8>> {
+    let path = format!(in rt.alloc(); "{kind}/{name}.bin")?;
+    fs::read(rt, path.as_str()).context(format_args!("cannot read {path:?}"))
 }
