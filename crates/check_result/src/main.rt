@@ -1,7 +1,7 @@
 //! check_result HOUR PUBLISHED: says whether a published result of an hour stands.
 #![tactic(auto)]
 
-use anyhow::Result;
+use anyhow::{Result, bail};
 use clap::{Arg, ArgAction, ArgMatches, Command};
 use office::{Source, Status, VERSION, check_published, end, end_answer, end_call, words};
 use std::alloc::{AllocError, Global};
@@ -29,8 +29,13 @@ fn command<'a>(heap: Global) -> std::result::Result<Command<'a>, AllocError> {
 }
 
 fn check(rt: &HostRuntime, found: &ArgMatches<'_>) -> Result<Status> {
-    let mut hour = Source::open(rt, found.get_str("HOUR").unwrap_or("-"))?;
-    let mut text = Source::open(rt, found.get_str("PUBLISHED").unwrap_or("-"))?;
+    let first = found.get_str("HOUR").unwrap_or("-");
+    let second = found.get_str("PUBLISHED").unwrap_or("-");
+    if first == "-" && second == "-" {
+        bail!("the hour and what was published cannot both come from standard input");
+    }
+    let mut hour = Source::open(rt, first)?;
+    let mut text = Source::open(rt, second)?;
     let answer = check_published(rt.alloc(), &mut hour, &mut text, &mut io::writer(rt))?;
     Ok(end_answer(rt, PROGRAM, answer))
 }

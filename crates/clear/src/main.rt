@@ -1,7 +1,7 @@
 //! clear [-o FILE] [HOUR]: clears an hour, or says why it is refused.
 #![tactic(auto)]
 
-use anyhow::Result;
+use anyhow::{Result, bail};
 use clap::{Arg, ArgAction, ArgMatches, Command};
 use office::{
     Source, Status, VERSION, clear_hour, clear_to_file, end, end_answer, end_call, words,
@@ -20,7 +20,9 @@ fn command<'a>(heap: Global) -> std::result::Result<Command<'a>, AllocError> {
         .short('o')
         .long("output")
         .value_name("FILE")
-        .help("Writes the result there once it is whole, and not to standard output");
+        .help(
+            "Writes the result there once it is whole; standard output where it is - or not given",
+        );
     Command::new(heap, PROGRAM)
         .version(VERSION)
         .about(
@@ -31,15 +33,18 @@ fn command<'a>(heap: Global) -> std::result::Result<Command<'a>, AllocError> {
 }
 
 fn clear(rt: &HostRuntime, found: &ArgMatches<'_>) -> Result<Status> {
-    let mut hour = Source::open(rt, found.get_str("HOUR").unwrap_or("-"))?;
-    let answer = match found.get_str("FILE") {
-        Some(name) => clear_to_file(rt, &mut hour, name)?,
-        None => clear_hour(
+    let source = found.get_str("HOUR").unwrap_or("-");
+    let target = found.get_str("FILE").unwrap_or("-");
+    let mut hour = Source::open(rt, source)?;
+    let answer = match target {
+        "-" => clear_hour(
             rt.alloc(),
             &mut hour,
             &mut io::writer(rt),
             &mut io::writer(rt),
         )?,
+        name if name == source => bail!("{name:?} is the hour: it is not written over"),
+        name => clear_to_file(rt, &mut hour, name)?,
     };
     Ok(end_answer(rt, PROGRAM, answer))
 }

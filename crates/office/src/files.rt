@@ -1,7 +1,7 @@
 //! Inputs by their names, and a file that is written aside. No clause can say what a file gives or takes.
 use anyhow::{Context, Result, bail};
 use std::fs::{File, OpenOptions};
-use std::io::{Read, Stdin, Write};
+use std::io::{ErrorKind, Read, Stdin, Write};
 use std::{fs, io, process};
 
 /// An input: a file, or standard input.
@@ -42,12 +42,13 @@ pub struct Aside {
 }
 
 impl Aside {
-    /// Begins a file that is to take a name. What stands there has to be a file or nothing.
+    /// Begins a file that is to take a name. What stands there has to be a file, and no link to one, or nothing.
     pub fn create(rt: &HostRuntime, name: &str) -> Result<Aside> {
-        if let Ok(there) = fs::metadata(rt, name) {
-            if !there.is_file() {
-                bail!("{name:?} is no file: it is not written over");
-            }
+        match fs::symlink_metadata(rt, name) {
+            Ok(there) if there.is_file() => {}
+            Ok(_) => bail!("{name:?} is no file: it is not written over"),
+            Err(error) if error.kind() == ErrorKind::NotFound => {}
+            Err(error) => return Err(error).context(format_args!("cannot write {name:?}")),
         }
         let id = process::id(rt.process());
         let part = format!(in rt.alloc(); "{name}.{id}.part")?;
@@ -55,7 +56,7 @@ impl Aside {
             .write(true)
             .create_new(true)
             .open(rt, part.as_str())
-            .context(format_args!("cannot write {part:?}"))?;
+            .context(format_args!("cannot write {name:?}"))?;
         let name = String::from_str(rt.alloc(), name)?;
         Ok(Aside { file, part, name })
     }

@@ -7,6 +7,7 @@ use crate::clearing::{Answer, clear_hour};
 use crate::files::{Aside, Source};
 use crate::status::Status;
 use anyhow::{Context, Result, bail};
+use std::io::ErrorKind;
 use std::process::ExitCode;
 use std::{env, io};
 
@@ -16,14 +17,18 @@ pub const VERSION: &str = "0.2.0";
 /// The words of a program's call, its own name first.
 pub fn words(rt: &HostRuntime) -> Result<Vec<String>> {
     let words = env::args(rt).context(
-        "cannot read the call: a file whose name is not UTF-8 is given on standard input",
+        "cannot read the call: give a file whose name is not UTF-8 on standard input",
     )?;
     Ok(words.collect(rt.alloc())?)
 }
 
-/// Answers a call that asks for help or for the version, or that is wrong: that is no clearing and no check.
+/// Answers a call that asks for help or for the version, or that is wrong: that is no clearing and no check. That whoever reads it has
+/// gone is no error.
 pub fn end_call(rt: &HostRuntime, error: clap::Error) -> Result<Status> {
-    error.print(rt)?;
+    match error.print(rt) {
+        Err(fault) if fault.kind() != ErrorKind::BrokenPipe => return Err(fault.into()),
+        _ => {}
+    }
     if error.exit_code() == 0 {
         Ok(Status::Good)
     } else {
@@ -41,6 +46,9 @@ pub fn clear_to_file(rt: &HostRuntime, hour: &mut Source, name: &str) -> Result<
         }
         Ok(answer) => {
             aside.give_up(rt);
+            if answer.good {
+                bail!("cannot write {name:?}: it takes no more");
+            }
             Ok(answer)
         }
         Err(fault) => {
