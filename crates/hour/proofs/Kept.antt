@@ -1,11 +1,11 @@
 -- An hour that no rule refuses keeps the rules, and the other way round. Assumes nothing.
-use Rattle.std.proofs.Common.{◌≡◌, ℕ, ◌+◌, ◌<◌, false, eqb, List, length, is_some, None, sym, ◌∙◌, pos_of_ne-zero, zero-add, arith}
+use Rattle.std.proofs.Common.{◌≡◌, ℕ, ◌+◌, ◌<◌, false, eqb, List, length, is_some, None, sym, refl, ap, ◌∙◌, pos_of_ne-zero, zero-add, arith}
 use Rattle.std.proofs.lemmas.List.FromFn.{length-map-range_with_len, get_or-map-range_with_len}
 use Rattle.std.proofs.lemmas.Bool.{eqb-false, ne_eqb, ltb-false, le-ltb, leb-false, lt-leb, or_parts, or_from}
 use Rattle.hour.specs.declared.items.Bid.{Bid}
 use Rattle.hour.specs.declared.items.Line.{Line}
 use Rattle.hour.specs.Bytes.{byte, two, bid_at, line_at, head_fault, market_of, refusal_of}
-use Rattle.hour.specs.Market.{Market, bid, line}
+use Rattle.hour.specs.Market.{Market, Plain, bid, line}
 use Rattle.hour.specs.Rules.{bid_place, line_place, bid_fault, line_fault, bids_fault, all_lines_fault, item_fault}
 use Rattle.hour.specs.Rules.{BidKept, LineKept, KeepsRules}
 use Rattle.hour.proofs.First.{is_none, else_none, else_none_left, else_none_right, when_none, when_false, first_none, first_all}
@@ -78,6 +78,15 @@ pub line_stands :
     line_at bs (line_place (two bs 1 + two bs 3) k) ≡ line (market_of bs).lines k
 line_stands bs k below = sym (get_or-map-range_with_len _ 0 (two bs 5) k k _ below (zero-add k))
 
+-- bytes say no costs and no supplies
+pub plain_said : (bs : List ℕ) → Plain (market_of bs)
+plain_said bs =
+    record {
+      costless = λ k below.
+          ap (λ (l : Line). l.cost) (sym (line_stands bs k (omega (arith, lines_count bs))));
+      unsupplied = refl;
+    }
+
 -- no bid and no line of a list with no fault breaks a rule
 pub bids_kept :
     (z before : ℕ) (bs : List Bid) → bids_fault z before bs ≡ None →
@@ -104,6 +113,7 @@ kept bs none =
       each_buy = bids_kept m.zones 0 m.buys (else_none_left _ _ items);
       each_sell = bids_kept m.zones (length m.buys) m.sells (else_none_left _ _ after_buys);
       each_line = lines_kept m.zones (length m.buys + length m.sells) m.lines (else_none_right _ _ after_buys);
+      plain = plain_said bs;
     }
 
 -- the k-th of each sort keeps its rules

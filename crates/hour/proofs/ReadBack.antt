@@ -76,9 +76,9 @@ module _ (bs : List ℕ) (p z : ℕ) (few : z ≤ max_zones) where
       λ i. record { zone = zone i; price = price i; amount = amount i }
 
   pub line_from_bytes :
-      (l : Line) → LineKept z l →
+      (l : Line) → LineKept z l → l.cost ≡ 0 →
       ((j : ℕ) → j < 5 → get_or bs (p + j) 0 ≡ get_or (line_bytes l) j 0) → line_at bs p ≡ l
-  line_from_bytes l kept said =
+  line_from_bytes l kept costless said =
       let at : (i j : ℕ) → i ≡ p + j → j < 5 → byte bs i ≡ get_or (line_bytes l) j 0 = at_place (line_bytes l) said in
       let from : byte bs p ≡ l.from = at p 0 (omega arith) (omega arith) ∙ one_from_low l.from (omega arith) in
       let to : byte bs (p + 1) ≡ l.to = at (p + 1) 1 refl (omega arith) ∙ one_from_low l.to (omega arith) in
@@ -88,7 +88,7 @@ module _ (bs : List ℕ) (p z : ℕ) (few : z ≤ max_zones) where
       (at (p + 2 + 1) 3 (omega arith) (omega arith))
       (at (p + 2 + 2) 4 (omega arith) (omega arith))
       in
-      λ i. record { from = from i; to = to i; capacity = capacity i }
+      λ i. record { from = from i; to = to i; capacity = capacity i; cost = sym costless i }
 
 -- a list by its places is the list, where each place has the same
 pub listed_same :
@@ -118,12 +118,13 @@ module _ (whole front rest : List ℕ) (z : ℕ) (few : z ≤ max_zones) where
 
   pub lines_back :
       (bids : ℕ) (xs : List Line) → ((k : ℕ) → k < length xs → LineKept z (line xs k)) →
+      ((k : ℕ) → k < length xs → (line xs k).cost ≡ 0) →
       line_place bids 0 ≡ length front → whole ≡ front ++ (flat_map line_bytes xs ++ rest) →
       lines_said whole bids (length xs) ≡ xs
-  lines_back bids xs kept start is =
+  lines_back bids xs kept costless start is =
       listed_same (length xs) _ xs _ refl
       (λ k below.
-      line_from_bytes whole (line_place bids k) z few (line xs k) (kept k below)
+      line_from_bytes whole (line_place bids k) z few (line xs k) (kept k below) (costless k below)
       (λ j within.
       ap (λ (w : List ℕ). get_or w (line_place bids k + j) 0) is
       ∙ get_behind line_bytes 5 (λ x. refl) front (line_place bids 0) xs rest k j (line_place bids k) _
@@ -177,7 +178,7 @@ module _ (m : Market) (kept : KeepsRules m) where
       let sb = flat_map bid_bytes m.sells in
       let lb = flat_map line_bytes m.lines in
       lines_back (bytes_of m) (hd ++ bb ++ sb) [] m.zones kept.zones (length m.buys + length m.sells)
-      m.lines kept.each_line
+      m.lines kept.each_line kept.plain.costless
       (omega (arith, upto_sells m)) (ap (λ (t : List ℕ). (hd ++ bb ++ sb) ++ t) (sym (append-nil lb)))
 
   market_back : market_of bs ≡ m
@@ -186,7 +187,7 @@ module _ (m : Market) (kept : KeepsRules m) where
       let buys = ap (bids_said bs 0) buys_read ∙ read_buys in
       let sells = ap₂ (bids_said bs) buys_read sells_read ∙ read_sells in
       let lines = ap₂ (lines_said bs) (ap₂ ◌+◌ buys_read sells_read) lines_read ∙ read_lines in
-      λ i. record { zones = zones_read i; buys = buys i; sells = sells i; lines = lines i }
+      λ i. record { zones = zones_read i; buys = buys i; sells = sells i; lines = lines i; supplies = sym kept.plain.unsupplied i }
 
   sound : Sound bs
   unfolding bs

@@ -1,11 +1,11 @@
 -- An hour given as lists, and what writing it answers. Assumes nothing: these are definitions.
 --
---   market_in book     the market that a book holds
+--   market_in book     the market that a book holds; a book has no supplies
 --   size_of m          how many bytes the hour has
 --   write_fault m n    why m is not written into a slice of n bytes: its shape, then the slice, then its bids and lines
 --   written m n        what writing answers: how many bytes were written, or the refusal
 --   left_by m r old    what a slice that held old holds after the answer r
-use Rattle.std.specs.Prelude.{ℕ, ◌+◌, List, ◌++◌, length, drop, Some, None, Ok, Err, Option, Result, nat_lt}
+use Rattle.std.specs.Prelude.{ℕ, ◌+◌, List, [], ◌++◌, length, drop, Some, None, Ok, Err, Option, Result, nat_lt}
 use Rattle.hour.specs.Bytes.{bytes_of}
 use Rattle.hour.specs.First.{when, ◌else◌}
 use Rattle.hour.specs.Market.{Market}
@@ -15,7 +15,7 @@ use Rattle.hour.specs.declared.refusals.Refusal.{Refusal}
 use Rattle.hour.specs.declared.refusals.Refusal.TheVariants.{Lent}
 
 abbrev pub market_in : Book → Market
-market_in b = record { zones = b.zones; buys = b.buys.now; sells = b.sells.now; lines = b.lines.now }
+market_in b = record { zones = b.zones; buys = b.buys.now; sells = b.sells.now; lines = b.lines.now; supplies = [] }
 
 abbrev pub size_of : Market → ℕ
 size_of m = line_place (length m.buys + length m.sells) (length m.lines)

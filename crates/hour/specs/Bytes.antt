@@ -20,7 +20,8 @@
 --   bytes_of m         the bytes of the market m
 --
 -- The head has the number of zones (one byte) and the counts of buys, sells and lines (two each); of a head that is cut
--- short, what is there is checked. A bid has zone (1), price (3), amount (3); a line has from (1), to (1), capacity (3).
+-- short, what is there is checked. A bid has zone (1), price (3), amount (3); a line has from (1), to (1), capacity (3). Bytes
+-- say no costs of lines and no supplies: there are none.
 use Rattle.std.specs.Prelude.{ℕ, zero, suc, ◌+◌, ◌*◌, ◌/◌, ◌%◌, cond, not, List, [], ◌∷◌, ◌++◌, length, Some, None, Ok, Err, Option, Result, ◌==◌, nat_le, slice_index}
 use Rattle.std.specs.List.{flat_map}
 use Rattle.hour.specs.First.{when, ◌else◌, first}
@@ -48,7 +49,7 @@ abbrev pub bid_at : List ℕ → ℕ → Bid
 bid_at bs i = record { zone = byte bs i; price = three bs (i + 1); amount = three bs (i + 4) }
 
 abbrev pub line_at : List ℕ → ℕ → Line
-line_at bs i = record { from = byte bs i; to = byte bs (i + 1); capacity = three bs (i + 2) }
+line_at bs i = record { from = byte bs i; to = byte bs (i + 1); capacity = three bs (i + 2); cost = 0 }
 
 abbrev pub bids_said : List ℕ → ℕ → ℕ → List Bid
 bids_said bs before count = listed count (λ k. bid_at bs (bid_place (before + k)))
@@ -63,6 +64,7 @@ market_of bs =
       buys = bids_said bs 0 (two bs 1);
       sells = bids_said bs (two bs 1) (two bs 3);
       lines = lines_said bs (two bs 1 + two bs 3) (two bs 5);
+      supplies = [];
     }
 
 abbrev pub size_said : List ℕ → ℕ

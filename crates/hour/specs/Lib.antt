@@ -1,6 +1,7 @@
 pub mod First
 pub mod Listed
 pub mod Total
+pub mod Items
 pub mod Market
 pub mod Refusals
 pub mod Rules

@@ -15,12 +15,13 @@
 --   lent_fault k n need  a lent slice with number k that has n numbers is shorter than needed
 --   results_fault n need the first of the slices 0 to 3, which hold a result, that is shorter than needed
 --   BidKept z b          what the rules ask of a bid, in an hour of z zones; LineKept z l the same of a line
---   KeepsRules m         all that the rules ask of an hour, in words of the market
+--   KeepsRules m         all that the rules ask of an hour, in words of the market; lines cost nothing there, and no zone has a
+--                        supply
 --
 -- A place is that of the byte in the written hour.
 use Rattle.std.specs.Prelude.{ℕ, ◌+◌, ◌*◌, ◌<◌, ◌≤◌, ◌||◌, List, length, Option, ◌==◌, nat_le, nat_lt}
 use Rattle.hour.specs.First.{when, ◌else◌, first}
-use Rattle.hour.specs.Market.{Market, bid, line}
+use Rattle.hour.specs.Market.{Market, Plain, bid, line}
 use Rattle.hour.specs.declared.items.Bid.{Bid}
 use Rattle.hour.specs.declared.items.Line.{Line}
 use Rattle.hour.specs.declared.refusals.Refusal.{Refusal}
@@ -126,3 +127,4 @@ pub record KeepsRules (m : Market) : Type 0 where
   pub each_buy : (k : ℕ) → k < length m.buys → BidKept m.zones (bid m.buys k)
   pub each_sell : (k : ℕ) → k < length m.sells → BidKept m.zones (bid m.sells k)
   pub each_line : (k : ℕ) → k < length m.lines → LineKept m.zones (line m.lines k)
+  pub plain : Plain m

@@ -121,6 +121,7 @@ impl Entry for Line {
             from: u64::from(bytes[at]),
             to: u64::from(bytes[at + 1]),
             capacity: three_bytes(bytes, at + 2),
+            cost: 0,
         }
     }
 

@@ -16,7 +16,7 @@ mod writing;
 
 pub use books::Book;
 pub use entries::Entry;
-pub use items::{Bid, Line};
+pub use items::{Bid, Item, Line, Terms};
 pub use money::{Hundredths, Price, ZERO_PRICE};
 pub use reading::{HEAD_SIZE, Head, check_items, check_limits, read_head, refusal};
 pub use refusals::{Refusal, Sort};
@@ -25,5 +25,5 @@ pub use rules::{
     check_line, check_results,
 };
 pub use text::listing;
-pub use view::Hour;
+pub use view::{Hour, number_at};
 pub use writing::write;

@@ -26,7 +26,12 @@ fn bid_row(text: &mut String, sort: Sort, k: usize, bid: Bid) -> Result<(), Allo
 fn line_row(text: &mut String, k: usize, line: Line) -> Result<(), AllocError>
     ensures { Adds result text.old (line_row k line) text.new }
 {
-    let Line { from, to, capacity } = line;
+    let Line {
+        from,
+        to,
+        capacity,
+        ..
+    } = line;
     writeln!(text, "line {k} from {from} to {to} capacity {capacity}")
 }
 

@@ -2,14 +2,21 @@
 ghost use Rattle.std.specs.Prelude.{◌≡◌, ◌+◌, ◌<◌, ◌≤◌, false, length, is_some, IfOk};
 ghost use Rattle.std.specs.Result.{result_err};
 ghost use Rattle.hour.specs.Bytes.{byte, two, market_of, refusal_of};
-ghost use Rattle.hour.specs.Market.{bid, line, count_of};
+ghost use Rattle.hour.specs.Market.{Among, at, bid, line, count_of, terms};
 ghost use Rattle.hour.specs.Rules.{line_place, BidKept, LineKept};
 
 use crate::bytes::two_bytes;
 use crate::entries::Entry;
-use crate::items::{Bid, Line};
+use crate::items::{Bid, Item, Line, Terms};
 use crate::reading::check_bytes;
 use crate::refusals::{Refusal, Sort};
+
+/// The number at place k of a list, or 0 behind its end.
+pub fn number_at(xs: &[u64], k: usize) -> u64
+    ensures { result ≡ at xs.now k }
+{
+    xs.get(k).copied().unwrap_or(0)
+}
 
 // The bytes of an hour that keeps every rule, with its counts; bids and lines are read where they stand. The counts are those
 // that the bytes say, and those of the market's lists.
@@ -121,8 +128,42 @@ impl<'a> Hour<'a> {
         requires { k < self.lines }
         ensures value { result ≡ line (market_seen self.entry).lines k }
         ensures kept { LineKept self.entry.zones result }
+        ensures costless { result.cost ≡ 0 }
     {
         self.nth(self.buys + self.sells, k)
+    }
+
+    /// The terms of an item at the zones' prices.
+    pub fn terms(self, prices: &[u64], item: Item) -> Terms
+        requires { Among (market_seen self) item }
+        ensures { result ≡ terms (market_seen self.entry) prices.now item }
+    {
+        match item {
+            Item::Buy(k) => {
+                let buy = self.buy(k);
+                Terms {
+                    limit: buy.amount,
+                    cost: number_at(prices, buy.zone as usize),
+                    value: buy.price,
+                }
+            }
+            Item::Sell(k) => {
+                let sell = self.sell(k);
+                Terms {
+                    limit: sell.amount,
+                    cost: sell.price,
+                    value: number_at(prices, sell.zone as usize),
+                }
+            }
+            Item::Line(k) => {
+                let line = self.line(k);
+                Terms {
+                    limit: line.capacity,
+                    cost: number_at(prices, line.from as usize) + line.cost,
+                    value: number_at(prices, line.to as usize),
+                }
+            }
+        }
     }
 }
 
