@@ -5,14 +5,14 @@
 use Rattle.std.proofs.Common.{◌≡◌, ℕ, ◌+◌, ◌<◌, cond, eqb, List, length, take, sym, refl, ap, ◌∙◌, ap₂, arith}
 use Rattle.std.proofs.lemmas.List.{get_or-take}
 use Rattle.hour.proofs.Total.{total_same}
-use Rattle.hour.specs.Market.{Market, Outcome, Proper, Feasible, Settled, at}
+use Rattle.hour.specs.Market.{Market, Outcome, Proper, Feasible, Settled, at, line}
 use Rattle.hour.specs.Total.{tagged}
 use Rattle.network.specs.Network.{Among, carried, unit_cost, unit_value}
 use Rattle.network.specs.Prices.{Lowest}
 use Rattle.network.specs.Tables.{outcome_in}
-use Rattle.network.specs.declared.arcs.Item.{Item}
-use Rattle.network.specs.declared.arcs.Item.TheVariants.{Buy, Sell, Line}
-use Rattle.network.proofs.Market.{settled_item, settled_by_item}
+use Rattle.hour.specs.declared.items.Item.{Item}
+use Rattle.hour.specs.declared.items.Item.TheVariants.{Buy, Sell, Line}
+use Rattle.network.proofs.Market.{limit_is}
 
 abbrev pub Agree : Market → Outcome → Outcome → Type 0
 Agree m o p = (i : Item) → Among m i → carried o i ≡ carried p i
@@ -32,7 +32,7 @@ feasible_agree m o p same feasible =
       sells = λ k below. omega (arith, same (Sell k) below, feasible.sells k below);
       lines = λ k below. omega (arith, same (Line k) below, feasible.lines k below);
       balance = λ z below.
-          sym (ap₂ ◌+◌
+          sym (ap₂ (λ sold flow. sold + flow + at m.supplies z)
           (tagged_same (length m.sells) _ z (at o.sold) (at p.sold) (λ k. same (Sell k)))
           (tagged_same (length m.lines) _ z (at o.flow) (at p.flow) (λ k. same (Line k))))
           ∙ (feasible.balance z below
@@ -45,7 +45,7 @@ module _ (m : Market) (ps qs : List ℕ) (proper : Proper m) (same : AgreePrices
   cost_agree : (i : Item) → Among m i → unit_cost m ps i ≡ unit_cost m qs i
   cost_agree (Buy k) among = same _ (proper.buys k among)
   cost_agree (Sell k) among = refl
-  cost_agree (Line k) among = same _ (proper.from k among)
+  cost_agree (Line k) among = ap (λ p. p + (line m.lines k).cost) (same _ (proper.from k among))
 
   value_agree : (i : Item) → Among m i → unit_value m ps i ≡ unit_value m qs i
   value_agree (Buy k) among = refl
@@ -54,12 +54,17 @@ module _ (m : Market) (ps qs : List ℕ) (proper : Proper m) (same : AgreePrices
 
   pub settled_agree : (o p : Outcome) → Agree m o p → Settled m o ps → Settled m p qs
   settled_agree o p alike settled =
-      settled_by_item m p qs (λ i among.
-      let c = settled_item m o ps settled i among in
       record {
-        whole = λ less. sym (alike i among) ∙ c.whole (omega (arith, cost_agree i among, value_agree i among));
-        none = λ less. sym (alike i among) ∙ c.none (omega (arith, cost_agree i among, value_agree i among));
-      })
+        content = λ i among.
+            let c = settled.content i among in
+            let cost = cost_agree i among in
+            let value = value_agree i among in
+            let limit = limit_is m ps i ∙ sym (limit_is m qs i) in
+            record {
+              whole = λ less. sym (alike i among) ∙ c.whole (omega arith) ∙ limit;
+              none = λ less. sym (alike i among) ∙ c.none (omega arith);
+            };
+      }
 
   -- lowest prices are lowest by any list that has the same
   pub lowest_agree : Lowest m ps → Lowest m qs

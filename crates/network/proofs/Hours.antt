@@ -1,11 +1,13 @@
 -- The worked hours, each by arithmetic on its numbers. Assumes nothing.
 use Rattle.std.proofs.Common.{◌≡◌, ℕ, zero, suc, ◌+◌, ◌<◌, ◌≤◌, List, [], ◌∷◌, length, inl, inr, arith, lit<}
 use Rattle.std.proofs.lemmas.Bool.{cases_eq, cases_lt}
-use Rattle.hour.specs.Market.{Market, Outcome, Proper, Feasible, Settled, Content, Balanced, at, bid, line, worth}
-use Rattle.network.specs.Network.{ContentItem}
-use Rattle.network.specs.declared.arcs.Item.TheVariants.{Buy, Sell, Line}
-use Rattle.network.specs.Hours.{Row, Holds, narrow, wide, in_part, tied, unsold, apart, one_each, traded}
+use Rattle.hour.specs.Market.{Market, Outcome, Proper, Feasible, Settled, Balanced, at, bid, line, worth, costs}
+use Rattle.network.specs.Network.{Among, ContentItem}
+use Rattle.hour.specs.declared.items.Item.{Item}
+use Rattle.hour.specs.declared.items.Item.TheVariants.{Buy, Sell, Line}
+use Rattle.network.specs.Hours.{Row, Holds, narrow, wide, in_part, tied, unsold, apart, charged, stored, one_each, traded}
 use Rattle.network.specs.Promises.{WorkedHours}
+use Rattle.network.proofs.Content.{runs, has_room}
 use Rattle.network.proofs.Prices.{one_lowest}
 
 -- what holds of each number below n, one by one
@@ -36,8 +38,12 @@ record CheckedPrices (m : Market) (o : Outcome) (ps : List ℕ) : Type 0 where
   lines : Every (length m.lines) (λ k. ContentItem m o ps (Line k))
 
 settled : (m : Market) (o : Outcome) (ps : List ℕ) → CheckedPrices m o ps → Settled m o ps
-settled m o ps c =
-    record { buys = every _ _ c.buys; sells = every _ _ c.sells; lines = every _ _ c.lines }
+settled m o ps c = record { content = content }
+  where
+    content : (i : Item) → Among m i → ContentItem m o ps i
+    content (Buy k) h = every _ _ c.buys k h
+    content (Sell k) h = every _ _ c.sells k h
+    content (Line k) h = every _ _ c.lines k h
 
 abbrev Below : Row → Type 0
 Below r =
@@ -46,7 +52,7 @@ Below r =
 holds :
     (r : Row) → CheckedMarket r.market → CheckedOutcome r.market r.outcome →
     CheckedPrices r.market r.outcome r.prices →
-    worth r.market.buys r.outcome.bought ≡ r.worth + worth r.market.sells r.outcome.sold →
+    worth r.market.buys r.outcome.bought ≡ r.worth + costs r.market r.outcome →
     Below r → Holds r
 holds r market outcome prices sums below =
     record {
@@ -79,34 +85,29 @@ holds r market outcome prices sums below =
     settles : Settled r.market r.outcome r.prices
     settles = settled r.market r.outcome r.prices prices
 
--- an amount above 0 says that a unit brings what it costs; one with room, that a unit brings no more
-runs : {limit x cost value : ℕ} → Content limit x cost value → 0 < x → cost ≤ value
-runs {limit} {x} {cost} {value} c some =
-    elim (cases_lt value cost) [ inl l ↦ omega (arith, c.none l) | inr le ↦ le ]
-
-has_room : {limit x cost value : ℕ} → Content limit x cost value → x < limit → value ≤ cost
-has_room {limit} {x} {cost} {value} c less =
-    elim (cases_lt cost value) [ inl l ↦ omega (arith, c.whole l) | inr le ↦ le ]
-
 pub worked_hours : WorkedHours
 worked_hours =
     record {
       narrow = holds narrow (omega arith) (omega arith) (omega arith) (omega arith)
-          (λ qs s. omega (arith, runs (s.sells 0 (lit< tt)) (lit< tt), runs (s.sells 1 (lit< tt)) (lit< tt)));
+          (λ qs s. omega (arith, runs (s.content (Sell 0) (lit< tt)) (lit< tt), runs (s.content (Sell 1) (lit< tt)) (lit< tt)));
       wide = holds wide (omega arith) (omega arith) (omega arith) (omega arith)
-          (λ qs s. omega (arith, runs (s.sells 1 (lit< tt)) (lit< tt), has_room (s.lines 0 (lit< tt)) (lit< tt)));
+          (λ qs s. omega (arith, runs (s.content (Sell 1) (lit< tt)) (lit< tt), has_room (s.content (Line 0) (lit< tt)) (lit< tt)));
       in_part = holds in_part (omega arith) (omega arith) (omega arith) (omega arith)
-          (λ qs s. omega (arith, has_room (s.buys 1 (lit< tt)) (lit< tt)));
+          (λ qs s. omega (arith, has_room (s.content (Buy 1) (lit< tt)) (lit< tt)));
       tied = λ n h. holds (tied n) (omega arith) (omega arith) (omega arith) (omega arith) (lowest_tied n h);
       unsold = holds unsold (omega arith) (omega arith) (omega arith) (omega arith) (λ qs s. omega arith);
       apart = holds apart (omega arith) (omega arith) (omega arith) (omega arith)
-          (λ qs s. omega (arith, runs (s.sells 0 (lit< tt)) (lit< tt)));
+          (λ qs s. omega (arith, runs (s.content (Sell 0) (lit< tt)) (lit< tt)));
+      charged = holds charged (omega arith) (omega arith) (omega arith) (omega arith)
+          (λ qs s. omega (arith, runs (s.content (Sell 1) (lit< tt)) (lit< tt), has_room (s.content (Line 0) (lit< tt)) (lit< tt)));
+      stored = holds stored (omega arith) (omega arith) (omega arith) (omega arith)
+          (λ qs s. omega (arith, runs (s.content (Sell 0) (lit< tt)) (lit< tt)));
       between = λ p low high. settled (one_each 12) (traded 10) (p ∷ []) (omega arith);
     }
   where
     lowest_tied : (n : ℕ) → n ≤ 10 → Below (tied n)
     lowest_tied n h qs s =
         elim (cases_lt 0 n) [
-          | inl some ↦ omega (arith, runs (s.sells 0 (lit< tt)) some)
-          | inr none ↦ omega (arith, has_room (s.buys 0 (lit< tt)) (omega arith))
+          | inl some ↦ omega (arith, runs (s.content (Sell 0) (lit< tt)) some)
+          | inr none ↦ omega (arith, has_room (s.content (Buy 0) (lit< tt)) (omega arith))
         ]

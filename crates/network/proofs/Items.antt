@@ -8,9 +8,8 @@ use Rattle.std.specs.Bool.{MatchBool}
 use Rattle.std.specs.List.{AllWithin, HoldsAt, range_with_len}
 use Rattle.hour.specs.Market.{Market, Outcome, Settled}
 use Rattle.network.specs.Network.{Among, nth, ContentItem}
-use Rattle.network.specs.declared.arcs.Item.{Item}
-use Rattle.network.specs.declared.arcs.Item.TheVariants.{Buy, Sell, Line}
-use Rattle.network.proofs.Market.{settled_item}
+use Rattle.hour.specs.declared.items.Item.{Item}
+use Rattle.hour.specs.declared.items.Item.TheVariants.{Buy, Sell, Line}
 
 pub nth_buy : (b s k : ℕ) → k < b → nth b s k ≡ Buy k
 nth_buy b s k h = rw (lt-ltb k b h)
@@ -46,15 +45,12 @@ nth_among m b s l k n h =
 pub settled_by_items :
     (m : Market) (o : Outcome) (ps : List ℕ) (b s l : ℕ) → Counts m b s l →
     ((k : ℕ) → k < b + s + l → ContentItem m o ps (nth b s k)) → Settled m o ps
-settled_by_items m o ps b s l n each =
-    record {
-      buys = λ k h. subst P (nth_buy b s k (omega arith)) (each k (omega arith));
-      sells = λ k h. subst P (nth_sell b s (b + k) k refl (omega arith)) (each (b + k) (omega arith));
-      lines = λ k h. subst P (nth_line b s (b + s + k) k refl) (each (b + s + k) (omega arith));
-    }
+settled_by_items m o ps b s l n each = record { content = content }
   where
-    P : Item → Type 0
-    P i = ContentItem m o ps i
+    content : (i : Item) → Among m i → ContentItem m o ps i
+    content (Buy k) h = subst (ContentItem m o ps) (nth_buy b s k (omega arith)) (each k (omega arith))
+    content (Sell k) h = subst (ContentItem m o ps) (nth_sell b s (b + k) k refl (omega arith)) (each (b + k) (omega arith))
+    content (Line k) h = subst (ContentItem m o ps) (nth_line b s (b + s + k) k refl) (each (b + s + k) (omega arith))
 
 -- a look at each item in turn, that ends at the first that is not content
 module _ (m : Market) (o : Outcome) (ps : List ℕ) (b s l n : ℕ) (counts : Counts m b s l) (all : n ≡ b + s + l) where
@@ -79,5 +75,5 @@ module _ (m : Market) (o : Outcome) (ps : List ℕ) (b s l n : ℕ) (counts : Co
         let inside : k < n = omega (arith, length-range_with_len 0 n) in
         absurd
         (subst (λ j. ContentItem m o ps (nth b s j) → ⊥) (number k inside) (off 0)
-        (settled_item m o ps settled (nth b s k) (nth_among m b s l k counts (omega arith)))),
+        (settled.content (nth b s k) (nth_among m b s l k counts (omega arith)))),
   )

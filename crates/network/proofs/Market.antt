@@ -1,13 +1,13 @@
 -- The market's definitions, said of its arcs. Assumes nothing.
-use Rattle.std.proofs.Common.{◌≡◌, ℕ, ◌+◌, ◌*◌, ◌<◌, ◌≤◌, eqb, ◌≢◌, List, length, sym, ◌∙◌, zero-mul, arith, le-ltb, lt-ltb, ne_eqb}
+use Rattle.std.proofs.Common.{◌≡◌, ℕ, ◌+◌, ◌*◌, ◌<◌, ◌≤◌, eqb, ◌≢◌, List, length, refl, ◌∙◌, zero-mul, arith, le-ltb, lt-ltb, ne_eqb}
 use Rattle.hour.specs.Total.{total, tagged}
-use Rattle.hour.specs.Market.{Market, Outcome, Proper, Feasible, Settled, at, bid, line, worth}
+use Rattle.hour.specs.Market.{Market, Outcome, Proper, Feasible, at, bid, line, worth, costs, terms}
 use Rattle.hour.specs.Market.{in_zone, into, out_of}
 use Rattle.hour.proofs.Total.{total_same, total_none}
 use Rattle.network.specs.Network.{Among, hub, tail, head, capacity, cost, gain, carried, tag, price}
-use Rattle.network.specs.Network.{inflow, outflow, gained, spent, unit_cost, unit_value, ContentItem}
-use Rattle.network.specs.declared.arcs.Item.{Item}
-use Rattle.network.specs.declared.arcs.Item.TheVariants.{Buy, Sell, Line}
+use Rattle.network.specs.Network.{inflow, outflow, gained, spent, unit_cost, unit_value}
+use Rattle.hour.specs.declared.items.Item.{Item}
+use Rattle.hour.specs.declared.items.Item.TheVariants.{Buy, Sell, Line}
 use Rattle.network.proofs.Weighed.{cond_mul}
 
 -- the prices of nodes
@@ -46,15 +46,15 @@ within m o f (Buy k) h = f.buys k h
 within m o f (Sell k) h = f.sells k h
 within m o f (Line k) h = f.lines k h
 
-pub settled_item :
-    (m : Market) (o : Outcome) (ps : List ℕ) → Settled m o ps → (i : Item) → Among m i → ContentItem m o ps i
-settled_item m o ps s (Buy k) h = s.buys k h
-settled_item m o ps s (Sell k) h = s.sells k h
-settled_item m o ps s (Line k) h = s.lines k h
+-- the limit in an item's terms is what its arc carries at most
+pub limit_is : (m : Market) (ps : List ℕ) (i : Item) → (terms m ps i).limit ≡ capacity m i
+limit_is m ps (Buy k) = refl
+limit_is m ps (Sell k) = refl
+limit_is m ps (Line k) = refl
 
-pub settled_by_item :
-    (m : Market) (o : Outcome) (ps : List ℕ) → ((i : Item) → Among m i → ContentItem m o ps i) → Settled m o ps
-settled_by_item m o ps c = record { buys = λ k. c (Buy k); sells = λ k. c (Sell k); lines = λ k. c (Line k) }
+pub within_terms :
+    (m : Market) (o : Outcome) (ps : List ℕ) → Feasible m o → (i : Item) → Among m i → carried o i ≤ (terms m ps i).limit
+within_terms m o ps f i h = omega (arith, within m o f i h, limit_is m ps i)
 
 -- what a unit costs and brings is what it does on its own, and the prices where its arc begins and ends
 pub unit_arc :
@@ -71,9 +71,8 @@ pub worth_gained : (m : Market) (o : Outcome) → worth m.buys o.bought ≡ gain
 worth_gained m o =
     omega (arith, nothing (length m.sells) (at o.sold), nothing (length m.lines) (at o.flow))
 
-pub worth_spent : (m : Market) (o : Outcome) → worth m.sells o.sold ≡ spent m o
-worth_spent m o =
-    omega (arith, nothing (length m.buys) (at o.bought), nothing (length m.lines) (at o.flow))
+pub costs_spent : (m : Market) (o : Outcome) → costs m o ≡ spent m o
+costs_spent m o = omega (arith, nothing (length m.buys) (at o.bought))
 
 -- the two sides of a zone's balance
 pub inflow_zone :
@@ -99,16 +98,16 @@ outflow_zone m o z h =
     )
 
 pub balanced_arcs :
-    (m : Market) (o : Outcome) → Feasible m o → (z : ℕ) → z < m.zones → inflow m o z ≡ outflow m o z
-balanced_arcs m o f z h = inflow_zone m o z h ∙ f.balance z h ∙ sym (outflow_zone m o z h)
+    (m : Market) (o : Outcome) → Feasible m o → (z : ℕ) → z < m.zones → inflow m o z + at m.supplies z ≡ outflow m o z
+balanced_arcs m o f z h = omega (arith, inflow_zone m o z h, f.balance z h, outflow_zone m o z h)
 
 pub feasible_by_arcs :
     (m : Market) (o : Outcome) → ((i : Item) → Among m i → carried o i ≤ capacity m i) →
-    ((z : ℕ) → z < m.zones → inflow m o z ≡ outflow m o z) → Feasible m o
+    ((z : ℕ) → z < m.zones → inflow m o z + at m.supplies z ≡ outflow m o z) → Feasible m o
 feasible_by_arcs m o limits balance =
     record {
       buys = λ k. limits (Buy k);
       sells = λ k. limits (Sell k);
       lines = λ k. limits (Line k);
-      balance = λ z h. sym (inflow_zone m o z h) ∙ balance z h ∙ outflow_zone m o z h;
+      balance = λ z h. omega (arith, inflow_zone m o z h, balance z h, outflow_zone m o z h);
     }

@@ -1,124 +1,40 @@
--- What prices that settle promise: Best, Even, NoRegret, Exchange and one lowest list. Assumes nothing.
-use Rattle.std.proofs.Common.{◌≡◌, ℕ, ◌+◌, ◌*◌, ◌<◌, ◌≤◌, List, length, sym, ap, ◌∙◌, inl, inr, mul-zero, zero-mul, arith}
-use Rattle.std.proofs.lemmas.Bool.{cases_eq}
+-- What prices that settle promise: Best, Even, MoneyBounded, NoRegret, Exchange and one lowest list. Assumes nothing.
+use Rattle.std.proofs.Common.{◌≡◌, ℕ, zero, suc, ◌+◌, ◌*◌, ◌<◌, ◌≤◌, List, length, sym, ap, ◌∙◌, inl, inr, mul-zero, zero-mul, add-mul, arith}
+use Rattle.std.proofs.Math.Nat.{mul-le-mul_right}
+use Rattle.std.proofs.lemmas.Bool.{cases_eq, cases_lt}
 use Rattle.std.proofs.lemmas.List.{ext_get_or}
 use Rattle.hour.specs.Total.{total}
-use Rattle.hour.specs.Market.{Market, Outcome, Proper, Feasible, Settled, at, bid, line}
-use Rattle.hour.proofs.Total.{total_same, total_none}
-use Rattle.network.specs.Network.{Among, hub, tail, head, cost, gain, carried, sum, weighed, price}
-use Rattle.network.specs.Network.{inflow, outflow, gained, spent, unit_cost, unit_value}
-use Rattle.network.specs.Prices.{Lowest, paid, sent, arrived}
-use Rattle.network.specs.Promises.{Best, Even, NoRegret, Exchange, OneLowest}
-use Rattle.network.specs.declared.arcs.Item.{Item}
-use Rattle.network.proofs.Sum.{sum_add, sum_le, sum_tight}
-use Rattle.network.proofs.Weighed.{weighed_add, weighed_same, weighed_by_node}
-use Rattle.network.proofs.Market.{price_zone, price_hub, tail_below, head_below, within, settled_item, settled_by_item}
-use Rattle.network.proofs.Market.{unit_arc, worth_gained, worth_spent, balanced_arcs}
-use Rattle.network.proofs.Content.{content_highest, content_tight}
+use Rattle.hour.specs.Market.{Market, Outcome, Proper, Feasible, at, bid, line, worth, costs}
+use Rattle.hour.proofs.Total.{total_same, total_none, total_add, total_le}
+use Rattle.network.specs.Network.{hub, price}
+use Rattle.network.specs.Prices.{Lowest, paid, sent, arrived, surplus, supplied}
+use Rattle.network.specs.Promises.{Best, Even, MoneyBounded, NoRegret, Exchange, OneLowest}
+use Rattle.hour.specs.declared.items.Item.TheVariants.{Buy, Line}
+use Rattle.network.proofs.Market.{price_zone, price_hub}
+use Rattle.network.proofs.Level.{level}
+use Rattle.network.proofs.Content.{content_highest, runs}
+use Rattle.network.proofs.Dual.{dual}
 
--- Idea: sum the flows by node; at a zone as much comes in as goes out, and the hub's price is 0.
-pub level :
-    (m : Market) (o : Outcome) (ps : List ℕ) → Proper m → Feasible m o →
-    weighed m (λ i. price m ps (head m i)) o ≡ weighed m (λ i. price m ps (tail m i)) o
-level m o ps p f =
-    weighed_by_node m o (hub m + 1) (head m) (price m ps) (head_below m p)
-    ∙ total_same (hub m + 1) _ _ at_node
-    ∙ sym (weighed_by_node m o (hub m + 1) (tail m) (price m ps) (tail_below m p))
-  where
-    at_node : (z : ℕ) → z < hub m + 1 → price m ps z * inflow m o z ≡ price m ps z * outflow m o z
-    at_node z h =
-        elim (cases_eq z (hub m)) [
-          | inl e ↦
-              let none : price m ps z ≡ 0 = ap (price m ps) e ∙ price_hub m ps in
-              ap (λ n. n * inflow m o z) none ∙ zero-mul _ ∙ sym (ap (λ n. n * outflow m o z) none ∙ zero-mul _)
-          | inr ne ↦ ap (λ n. price m ps z * n) (balanced_arcs m o f z (omega arith))
-        ]
-
--- the surpluses of p less those of o are what p is worth less what o is worth
-pub surplus_worth :
-    (m : Market) (o p : Outcome) (ps : List ℕ) → Proper m → Feasible m o → Feasible m p →
-    weighed m (unit_value m ps) p + weighed m (unit_cost m ps) o + (gained m o + spent m p)
-    ≡ weighed m (unit_value m ps) o + weighed m (unit_cost m ps) p + (gained m p + spent m o)
-surplus_worth m o p ps proper f g =
-    let heads : Item → ℕ = λ i. price m ps (head m i) in
-    let tails : Item → ℕ = λ i. price m ps (tail m i) in
-    omega (
-      arith,
-      weighed_same m (unit_value m ps) (λ i. gain m i + heads i) o (λ i h. (unit_arc m ps proper i h).1),
-      weighed_same m (unit_value m ps) (λ i. gain m i + heads i) p (λ i h. (unit_arc m ps proper i h).1),
-      weighed_same m (unit_cost m ps) (λ i. cost m i + tails i) o (λ i h. (unit_arc m ps proper i h).0),
-      weighed_same m (unit_cost m ps) (λ i. cost m i + tails i) p (λ i h. (unit_arc m ps proper i h).0),
-      weighed_add m (gain m) heads o,
-      weighed_add m (gain m) heads p,
-      weighed_add m (cost m) tails o,
-      weighed_add m (cost m) tails p,
-      level m o ps proper f,
-      level m p ps proper g,
-    )
-
--- one item's surplus in p on the left, in o on the right
-abbrev lower : Market → List ℕ → Outcome → Outcome → Item → ℕ
-lower m ps o p i = unit_value m ps i * carried p i + unit_cost m ps i * carried o i
-
-surplus_le :
-    (m : Market) (o p : Outcome) (ps : List ℕ) → Feasible m o → Settled m o ps → Feasible m p →
-    (i : Item) → Among m i → lower m ps o p i ≤ lower m ps p o i
-surplus_le m o p ps f s g i h =
-    content_highest _ _ _ _ (within m o f i h) (settled_item m o ps s i h) (carried p i) (within m p g i h)
-
-sum_lower :
-    (m : Market) (ps : List ℕ) (o p : Outcome) →
-    sum m (lower m ps o p) ≡ weighed m (unit_value m ps) p + weighed m (unit_cost m ps) o
-sum_lower m ps o p = sum_add m (λ i. unit_value m ps i * carried p i) (λ i. unit_cost m ps i * carried o i)
-
-best_arcs :
-    (m : Market) (o p : Outcome) (ps : List ℕ) → Proper m → Feasible m o → Settled m o ps → Feasible m p →
-    gained m p + spent m o ≤ gained m o + spent m p
-best_arcs m o p ps proper f s g =
-    omega (
-      arith,
-      sum_le m _ _ (surplus_le m o p ps f s g),
-      sum_lower m ps o p,
-      sum_lower m ps p o,
-      surplus_worth m o p ps proper f g,
-    )
-
--- Idea: each item's surplus at the prices is highest in o; summed up, the prices cancel, as every zone is in balance.
+-- Idea: at the prices that settle o, what all items could gain is what o is worth, and at least what any other is.
 pub best : Best
-best m o p ps proper f s g =
-    omega (
-      arith,
-      best_arcs m o p ps proper f s g,
-      worth_gained m o,
-      worth_gained m p,
-      worth_spent m o,
-      worth_spent m p,
-    )
+best m o p ps proper f s g = omega (arith, (dual m o ps proper f).settled s, (dual m p ps proper g).within)
 
--- Idea: both outcomes are worth the same, so at qs each item's surplus in o is that in p, the highest.
+-- Idea: at either list, what all items could gain is what its outcome is worth and at least what the other is; so at
+-- both it is the same, which is what o is worth.
 pub exchange : Exchange
 exchange m o p ps qs proper f g s t =
-    settled_by_item m o qs (λ i h.
-    content_tight _ (carried p i) (carried o i) _ _ (settled_item m p qs t i h) (within m o f i h)
-    (sum_tight m (lower m qs p o) (lower m qs o p) (surplus_le m p o qs g t f) sums i h))
-  where
-    sums : sum m (lower m qs o p) ≤ sum m (lower m qs p o)
-    sums =
-        omega (
-          arith,
-          best_arcs m o p ps proper f s g,
-          sum_lower m qs o p,
-          sum_lower m qs p o,
-          surplus_worth m o p qs proper f g,
-        )
+    let even : worth m.buys o.bought ≡ costs m o + surplus m qs + supplied m qs =
+    omega (
+      arith,
+      (dual m o ps proper f).settled s,
+      (dual m p qs proper g).settled t,
+      (dual m p ps proper g).within,
+      (dual m o qs proper f).within,
+    ) in
+    (dual m o qs proper f).settles even
 
 pub no_regret : NoRegret
-no_regret m o ps f s =
-    record {
-      buys = λ k h. content_highest _ _ _ _ (f.buys k h) (s.buys k h);
-      sells = λ k h. content_highest _ _ _ _ (f.sells k h) (s.sells k h);
-      lines = λ k h. content_highest _ _ _ _ (f.lines k h) (s.lines k h);
-    }
+no_regret m o ps f s = record { highest = λ i h. content_highest _ _ (s.content i h) }
 
 priced :
     (m : Market) (ps : List ℕ) (n : ℕ) (key x : ℕ → ℕ) → ((k : ℕ) → k < n → key k < m.zones) →
@@ -129,11 +45,11 @@ unpriced : (m : Market) (ps : List ℕ) (n : ℕ) (x : ℕ → ℕ) → total n 
 unpriced m ps n x =
     total_same n _ _ (λ k h. ap (λ q. q * x k) (price_hub m ps) ∙ zero-mul (x k)) ∙ total_none n
 
--- Idea: the prices at the heads sum up to those at the tails, whatever the prices are.
+-- Idea: the prices at the heads, with the supplies at theirs, sum up to those at the tails, whatever the prices are.
 pub paid_level :
     (m : Market) (o : Outcome) (ps : List ℕ) → Proper m → Feasible m o →
     paid ps m.buys o.bought + sent ps m.lines o.flow
-    ≡ paid ps m.sells o.sold + arrived ps m.lines o.flow
+    ≡ paid ps m.sells o.sold + arrived ps m.lines o.flow + supplied m ps
 paid_level m o ps proper f =
     omega (
       arith,
@@ -150,12 +66,62 @@ paid_level m o ps proper f =
 pub even : Even
 even m o ps proper f s =
     record {
-      even = paid_level m o ps proper f;
+      even = omega (arith, paid_level m o ps proper f);
       lines = λ k h.
           let begin = at ps (line m.lines k).from in
           let end = at ps (line m.lines k).to in
-          omega (arith, (no_regret m o ps f s).lines k h 0 (omega arith), mul-zero begin, mul-zero end);
+          let own = (line m.lines k).cost in
+          omega (
+            arith,
+            (no_regret m o ps f s).highest (Line k) h 0 (omega arith),
+            mul-zero (begin + own),
+            mul-zero end,
+            add-mul begin own (at o.flow k),
+          );
     }
+
+-- where no part is above another's, one part's difference is no more than all together
+apart_le :
+    (n : ℕ) (f g : ℕ → ℕ) → ((j : ℕ) → j < n → f j ≤ g j) → (k : ℕ) → k < n → total n f + g k ≤ total n g + f k
+apart_le zero f g le k h = let never : ⊥ = omega arith in absurd never
+apart_le (suc n) f g le k h =
+    elim (cases_eq k n) [
+      | inl e ↦ omega (arith, total_le n f g (λ j l. le j (omega arith)), ap f e, ap g e)
+      | inr ne ↦ omega (arith, apart_le n f g (λ j l. le j (omega arith)) k (omega arith), le n (omega arith))
+    ]
+
+-- Idea: a buyer that has something pays no more than its bid; and of what buyers pay, sellers and lines get parts that are not
+-- below nothing.
+pub money_bounded : MoneyBounded
+money_bounded m o ps proper f s =
+    let money = even m o ps proper f s in
+    let sends : ℕ → ℕ = λ k. at ps (line m.lines k).from * at o.flow k in
+    let own : ℕ → ℕ = λ k. (line m.lines k).cost * at o.flow k in
+    let arrives : ℕ → ℕ = λ k. at ps (line m.lines k).to * at o.flow k in
+    let begins = total_add (length m.lines) sends own in
+    let rises = total_le (length m.lines) (λ k. sends k + own k) arrives money.lines in
+    record {
+      buys = total_le (length m.buys) _ _ pays_less;
+      sells = omega (arith, money.even, begins, rises);
+      lines = λ k h. omega (
+        arith,
+        money.even,
+        begins,
+        apart_le (length m.lines) (λ j. sends j + own j) arrives money.lines k h,
+      );
+    }
+  where
+    pays_less :
+        (k : ℕ) → k < length m.buys → at ps (bid m.buys k).zone * at o.bought k ≤ (bid m.buys k).price * at o.bought k
+    pays_less k h =
+        let price = (bid m.buys k).price in
+        let asked = at ps (bid m.buys k).zone in
+        elim (cases_lt 0 (at o.bought k)) [
+          | inl some ↦ mul-le-mul_right (at o.bought k) (runs (s.content (Buy k) h) some)
+          | inr none ↦
+              let nothing : at o.bought k ≡ 0 = omega arith in
+              omega (arith, ap (λ n. asked * n) nothing, ap (λ n. price * n) nothing, mul-zero asked, mul-zero price)
+        ]
 
 -- Idea: two lists that are each at or below the other are one; by exchange, what settles any outcome settles this one.
 pub one_lowest : OneLowest

@@ -7,29 +7,29 @@ use Rattle.network.specs.Network.{Among, hub, capacity, carried, price, unit_cos
 use Rattle.network.specs.Ways.{finish, Free, Links, way_cost, way_gain}
 use Rattle.network.specs.Ways.{Resting, Reached}
 use Rattle.network.specs.Promises.{AtRest}
-use Rattle.network.specs.declared.arcs.Item.{Item}
+use Rattle.hour.specs.declared.items.Item.{Item}
 use Rattle.network.specs.declared.arcs.Step.{Step}
 use Rattle.network.specs.declared.arcs.Step.TheVariants.{Forward, Backward}
-use Rattle.network.proofs.Market.{price_zone, price_hub, within, unit_arc, settled_item, settled_by_item}
+use Rattle.network.proofs.Market.{price_zone, price_hub, within, unit_arc, limit_is}
 use Rattle.network.proofs.Prices.{one_lowest}
 
 -- Idea: an arc with room, or one that carries something, is not content where the step along it would raise a price.
 pub resting : (m : Market) (o : Outcome) (ps : List ℕ) → Proper m → Settled m o ps → Resting m o ps
 resting m o ps proper s (Forward i) f =
     let unit = unit_arc m ps proper i f.among in
-    let content = settled_item m o ps s i f.among in
+    let content = s.content i f.among in
     elim (cases_lt (unit_cost m ps i) (unit_value m ps i))
-    [ inl l ↦ omega (arith, content.whole l, f.room) | inr le ↦ omega arith ]
+    [ inl l ↦ omega (arith, content.whole l, f.room, limit_is m ps i) | inr le ↦ omega arith ]
 resting m o ps proper s (Backward i) f =
     let unit = unit_arc m ps proper i f.among in
-    let content = settled_item m o ps s i f.among in
+    let content = s.content i f.among in
     elim (cases_lt (unit_value m ps i) (unit_cost m ps i))
     [ inl l ↦ omega (arith, content.none l, f.room) | inr le ↦ omega arith ]
 
 -- Idea: if an arc is not content, the step forward or the step backward along it is free, and would raise a price.
 pub settled_at_rest :
     (m : Market) (o : Outcome) (ps : List ℕ) → Proper m → Feasible m o → Resting m o ps → Settled m o ps
-settled_at_rest m o ps proper f rest = settled_by_item m o ps content
+settled_at_rest m o ps proper f rest = record { content = content }
   where
     content : (i : Item) → Among m i → ContentItem m o ps i
     content i h =
@@ -38,7 +38,7 @@ settled_at_rest m o ps proper f rest = settled_by_item m o ps content
         record {
           whole = λ l. elim (cases_lt (carried o i) (capacity m i)) [
             | inl less ↦ omega (arith, rest (Forward i) (record { among = h; room = omega arith }))
-            | inr full ↦ omega arith
+            | inr full ↦ omega (arith, limit_is m ps i)
           ];
           none = λ l. elim (cases_lt 0 (carried o i)) [
             | inl some ↦ omega (arith, rest (Backward i) (record { among = h; room = some }))

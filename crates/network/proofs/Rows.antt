@@ -1,11 +1,12 @@
 -- What tables of numbers say, as sums over their items. Assumes nothing.
-use Rattle.std.proofs.Common.{◌≡◌, ℕ, ◌+◌, ◌*◌, ◌<◌, ◌≤◌, cond, eqb, List, [], length, get_or, ap, arith}
+use Rattle.std.proofs.Common.{◌≡◌, ℕ, ◌+◌, ◌*◌, ◌<◌, ◌≤◌, cond, eqb, List, [], length, get_or, ap, refl, arith}
 use Rattle.std.proofs.lemmas.List.FromFn.{length-map-range_with_len}
 use Rattle.hour.specs.Total.{total, tagged}
 use Rattle.hour.specs.declared.items.Bid.{Bid}
-use Rattle.hour.specs.Market.{at, bid, worth, in_zone, into, out_of}
+use Rattle.hour.specs.declared.items.Line.{Line}
+use Rattle.hour.specs.Market.{Plain, at, bid, worth, in_zone, into, out_of}
 use Rattle.hour.proofs.Total.{total_listed, total_more, total_part}
-use Rattle.network.specs.Tables.{cell, items, triples, bids_in, lines_in, market_in, zone_total}
+use Rattle.network.specs.Tables.{cell, items, triples, nth_row, bids_in, lines_in, market_in, zone_total}
 use Rattle.network.proofs.Items.{Counts}
 use Rattle.network.proofs.Triples.{row_made}
 
@@ -31,6 +32,16 @@ pub counts_in :
     (zones : ℕ) (buys sells lines : List ℕ) →
     Counts (market_in zones buys sells lines) (items buys) (items sells) (items lines)
 counts_in zones buys sells lines = (length_bids_in buys, length_bids_in sells, length_lines_in lines)
+
+-- a line of three numbers costs nothing
+abbrev as_line : ℕ → ℕ → ℕ → Line
+as_line from to capacity = record { from = from; to = to; capacity = capacity; cost = 0 }
+
+pub row_costless : (t : List ℕ) (k : ℕ) → (nth_row as_line t k).cost ≡ 0
+row_costless t k = ap (λ (l : Line). l.cost) (row_made as_line t k).0
+
+pub plain_in : (zones : ℕ) (buys sells lines : List ℕ) → Plain (market_in zones buys sells lines)
+plain_in zones buys sells lines = record { costless = λ k below. row_costless lines k; unsupplied = refl }
 
 -- the worth of the first n bids, and a loop over the rows: one more, which is no more than all
 abbrev pub worth_to : List Bid → List ℕ → ℕ → ℕ

@@ -5,8 +5,8 @@ use Rattle.hour.specs.Total.{total}
 use Rattle.hour.specs.Market.{Market}
 use Rattle.hour.proofs.Total.{total_add, total_scale, total_same, total_le, total_tight, total_total}
 use Rattle.network.specs.Network.{Among, sum}
-use Rattle.network.specs.declared.arcs.Item.{Item}
-use Rattle.network.specs.declared.arcs.Item.TheVariants.{Buy, Sell, Line}
+use Rattle.hour.specs.declared.items.Item.{Item}
+use Rattle.hour.specs.declared.items.Item.TheVariants.{Buy, Sell, Line}
 
 module _ (m : Market) where
   pub sum_add : (f g : Item → ℕ) → sum m (λ i. f i + g i) ≡ sum m f + sum m g

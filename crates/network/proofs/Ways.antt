@@ -2,16 +2,16 @@
 use Rattle.std.proofs.Common.{◌≡◌, ℕ, ◌+◌, ◌-◌, ◌*◌, ◌<◌, ◌≤◌, ◌≢◌, ◌⊎◌, List, [], ◌∷◌, sym, refl, ap, ◌∙◌, inl, inr, mul-le-mul_right, add-mul, mul-add, sub-add_cancel, arith}
 use Rattle.std.specs.List.{AllByRecursion}
 use Rattle.std.proofs.lemmas.Bool.{cases_eq}
-use Rattle.hour.specs.Market.{Market, Outcome, at, worth}
+use Rattle.hour.specs.Market.{Market, Outcome, at, worth, costs}
 use Rattle.network.specs.Network.{Among, tail, head, capacity, cost, gain, carried, weighed, tag, inflow, outflow}
 use Rattle.network.specs.Ways.{start, room, Fits, Links, Once, way_cost, way_gain, put, carry, moved, pushed}
 use Rattle.network.specs.Promises.{Push}
-use Rattle.network.specs.declared.arcs.Item.{Item}
-use Rattle.network.specs.declared.arcs.Item.TheVariants.{Buy, Sell, Line}
+use Rattle.hour.specs.declared.items.Item.{Item}
+use Rattle.hour.specs.declared.items.Item.TheVariants.{Buy, Sell, Line}
 use Rattle.network.specs.declared.arcs.Step.{Step}
 use Rattle.network.specs.declared.arcs.Step.TheVariants.{Forward, Backward}
 use Rattle.network.proofs.Weighed.{at_put_same, at_put_other, weighed_carry}
-use Rattle.network.proofs.Market.{within, worth_gained, worth_spent, balanced_arcs, feasible_by_arcs}
+use Rattle.network.proofs.Market.{within, worth_gained, costs_spent, balanced_arcs, feasible_by_arcs}
 
 -- an item carries what it was given, or what it carried before
 abbrev pub Carries : Outcome → Item → ℕ → Item → Type 0
@@ -154,7 +154,7 @@ push m o a d ss f links once fits =
       rises = λ some pays. omega (arith, changes, mul-le-mul_right d pays, add-mul (way_cost m ss) 1 d);
     }
   where
-    balance : (z : ℕ) → z < m.zones → inflow m (pushed o ss d) z ≡ outflow m (pushed o ss d) z
+    balance : (z : ℕ) → z < m.zones → inflow m (pushed o ss d) z + at m.supplies z ≡ outflow m (pushed o ss d) z
     balance z h =
         let heads : Item → ℕ = λ i. tag (head m i) z in
         let tails : Item → ℕ = λ i. tag (tail m i) z in
@@ -171,8 +171,8 @@ push m o a d ss f links once fits =
         )
 
     changes :
-        worth m.buys (pushed o ss d).bought + worth m.sells o.sold + way_cost m ss * d
-        ≡ worth m.buys o.bought + worth m.sells (pushed o ss d).sold + way_gain m ss * d
+        worth m.buys (pushed o ss d).bought + costs m o + way_cost m ss * d
+        ≡ worth m.buys o.bought + costs m (pushed o ss d) + way_gain m ss * d
     changes =
         omega (
           arith,
@@ -182,6 +182,6 @@ push m o a d ss f links once fits =
           ap (λ n. n * d) (way_gain_weights m ss) ∙ add-mul (raised (gain m) ss) (lowered (cost m) ss) d,
           worth_gained m o,
           worth_gained m (pushed o ss d),
-          worth_spent m o,
-          worth_spent m (pushed o ss d),
+          costs_spent m o,
+          costs_spent m (pushed o ss d),
         )

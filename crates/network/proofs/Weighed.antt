@@ -5,8 +5,8 @@ use Rattle.hour.specs.Market.{Market, Outcome, at}
 use Rattle.hour.proofs.Total.{total_same, total_change, total_pick}
 use Rattle.network.specs.Network.{Among, carried, weighed, tag}
 use Rattle.network.specs.Ways.{put, carry}
-use Rattle.network.specs.declared.arcs.Item.{Item}
-use Rattle.network.specs.declared.arcs.Item.TheVariants.{Buy, Sell, Line}
+use Rattle.hour.specs.declared.items.Item.{Item}
+use Rattle.hour.specs.declared.items.Item.TheVariants.{Buy, Sell, Line}
 use Rattle.network.proofs.Sum.{sum_add, sum_scale, sum_same, sum_total}
 
 pub weighed_same :

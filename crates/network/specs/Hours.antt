@@ -11,6 +11,8 @@
 --   tied n          buyer and seller ask the same, and any amount n will do
 --   unsold          nobody buys
 --   apart           the seller asks less than the buyer bids, and every price between them settles
+--   charged         a line that has room and carries something stands between two prices by its cost
+--   stored          what a zone is supplied with is used, and only the rest is sold
 --
 -- In crates/trials/data/worked, and in docs/TEMPTING.md, which speaks of some, they are the hours A (narrow), A1 (wide),
 -- B (in_part), C (tied), D (unsold) and F (apart).
@@ -19,7 +21,7 @@
 use Rattle.std.specs.Prelude.{◌≡◌, ℕ, ◌+◌, List, [], ◌∷◌}
 use Rattle.hour.specs.declared.items.Bid.{Bid}
 use Rattle.hour.specs.declared.items.Line.{Line}
-use Rattle.hour.specs.Market.{Market, Outcome, Proper, Feasible, Settled, worth}
+use Rattle.hour.specs.Market.{Market, Outcome, Proper, Feasible, Settled, worth, costs}
 use Rattle.network.specs.Prices.{Lowest}
 
 pub record Row : Type 0 where
@@ -34,13 +36,13 @@ pub record Holds (r : Row) : Type 0 where
   pub settled : Settled r.market r.outcome r.prices
   pub lowest : Lowest r.market r.prices
   pub worth :
-      worth r.market.buys r.outcome.bought ≡ r.worth + worth r.market.sells r.outcome.sold
+      worth r.market.buys r.outcome.bought ≡ r.worth + costs r.market r.outcome
 
 abbrev pub bids : ℕ → ℕ → ℕ → Bid
 bids z p a = record { zone = z; price = p; amount = a }
 
 abbrev pub joins : ℕ → ℕ → ℕ → Line
-joins a b c = record { from = a; to = b; capacity = c }
+joins a b c = record { from = a; to = b; capacity = c; cost = 0 }
 
 abbrev pub two_zones : ℕ → Market
 two_zones capacity =
@@ -49,6 +51,7 @@ two_zones capacity =
       buys = bids 1 50 100 ∷ [];
       sells = bids 0 20 80 ∷ bids 1 40 60 ∷ [];
       lines = joins 0 1 capacity ∷ joins 1 0 capacity ∷ [];
+      supplies = [];
     }
 
 abbrev pub narrow : Row
@@ -78,6 +81,7 @@ in_part =
             buys = bids 0 30 10 ∷ bids 0 25 10 ∷ [];
             sells = bids 0 10 15 ∷ bids 0 28 10 ∷ [];
             lines = [];
+            supplies = [];
           };
       outcome = record { bought = 10 ∷ 5 ∷ []; sold = 15 ∷ 0 ∷ []; flow = [] };
       prices = 25 ∷ [];
@@ -86,7 +90,7 @@ in_part =
 
 abbrev pub one_each : ℕ → Market
 one_each ask =
-    record { zones = 1; buys = bids 0 30 10 ∷ []; sells = bids 0 ask 10 ∷ []; lines = [] }
+    record { zones = 1; buys = bids 0 30 10 ∷ []; sells = bids 0 ask 10 ∷ []; lines = []; supplies = [] }
 
 abbrev pub traded : ℕ → Outcome
 traded n = record { bought = n ∷ []; sold = n ∷ []; flow = [] }
@@ -97,7 +101,7 @@ tied n = record { market = one_each 30; outcome = traded n; prices = 30 ∷ []; 
 abbrev pub unsold : Row
 unsold =
     record {
-      market = record { zones = 2; buys = []; sells = bids 0 5 10 ∷ []; lines = joins 0 1 5 ∷ [] };
+      market = record { zones = 2; buys = []; sells = bids 0 5 10 ∷ []; lines = joins 0 1 5 ∷ []; supplies = [] };
       outcome = record { bought = []; sold = 0 ∷ []; flow = 0 ∷ [] };
       prices = 0 ∷ 0 ∷ [];
       worth = 0;
@@ -105,3 +109,28 @@ unsold =
 
 abbrev pub apart : Row
 apart = record { market = one_each 12; outcome = traded 10; prices = 12 ∷ []; worth = 180 }
+
+abbrev pub charged : Row
+charged =
+    record {
+      market =
+          record {
+            zones = 2;
+            buys = bids 1 50 100 ∷ [];
+            sells = bids 0 20 80 ∷ bids 1 40 60 ∷ [];
+            lines = record { from = 0; to = 1; capacity = 90; cost = 5 } ∷ [];
+            supplies = [];
+          };
+      outcome = record { bought = 100 ∷ []; sold = 80 ∷ 20 ∷ []; flow = 80 ∷ [] };
+      prices = 35 ∷ 40 ∷ [];
+      worth = 2200;
+    }
+
+abbrev pub stored : Row
+stored =
+    record {
+      market = record { zones = 1; buys = bids 0 30 8 ∷ []; sells = bids 0 20 10 ∷ []; lines = []; supplies = 5 ∷ [] };
+      outcome = record { bought = 8 ∷ []; sold = 3 ∷ []; flow = [] };
+      prices = 20 ∷ [];
+      worth = 180;
+    }

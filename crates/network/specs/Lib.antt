@@ -1,6 +1,9 @@
 pub mod Network
 pub mod Ways
 pub mod Prices
+pub mod ByLists
+pub mod Cut
+pub mod Floor
 pub mod Hours
 pub mod Promises
 pub mod Tables

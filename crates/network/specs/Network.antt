@@ -1,34 +1,27 @@
 -- A market as a network: each bid and each line is an arc between two nodes. Assumes nothing: these are definitions.
 --
---   Item              a buy, a sell or a line, by its number among its sort
---   Among m i         i is an item of m
 --   nth b s k         item k of all: b buys first, then s sells, then lines
 --   hub m             a node beside the zones: every sell comes from it, every buy goes to it
 --   tail, head        the nodes where an arc begins and ends: a buy goes from its zone to the hub, a sell from the
 --                     hub to its zone, a line from zone to zone
 --   capacity          how much an arc carries at most
---   cost, gain        what a unit costs and brings on its own: a sell costs its price, a buy brings its price
---   carried o i       how much i carries in the outcome o
+--   cost, gain        what a unit costs and brings on its own: a sell costs its price, a line its cost, a buy brings its price
 --   sum m f           f over all items of m
 --   weighed m w o     what o carries, item by item, times the item's weight
 --   tag v z           1 where v and z are the same node, else 0
 --   inflow, outflow   what o carries into a node, and out of it
 --   gained, spent     what o gains and what it costs
 --   price m ps n      a node's price: that of its zone, and 0 for the hub
---   unit_cost         what a unit of an item costs at the prices ps; unit_value what it brings
+--   unit_cost         what a unit of an item costs at the prices ps, by its terms; unit_value what it brings
 --   ContentItem       what Settled says of the item
 --
--- A line costs and gains nothing on its own; a fee on a line would be its cost.
-use Rattle.std.specs.Prelude.{ℕ, ◌+◌, ◌-◌, ◌*◌, ◌<◌, cond, List, length, ◌==◌, nat_lt}
+-- A supply is no item: nothing chooses it. It is there besides what flows in.
+use Rattle.std.specs.Prelude.{ℕ, ◌+◌, ◌-◌, ◌*◌, cond, List, length, ◌==◌, nat_lt}
 use Rattle.hour.specs.Total.{total}
-use Rattle.hour.specs.Market.{Market, Outcome, Content, at, bid, line}
-use Rattle.network.specs.declared.arcs.Item.{Item}
-use Rattle.network.specs.declared.arcs.Item.TheVariants.{Buy, Sell, Line}
-
-abbrev pub Among : Market → Item → Type 0
-Among m (Buy k) = k < length m.buys
-Among m (Sell k) = k < length m.sells
-Among m (Line k) = k < length m.lines
+use Rattle.hour.specs.Market.{Market, Outcome, Content, at, bid, line, terms}
+pub use Rattle.hour.specs.Market.{Among, carried}
+use Rattle.hour.specs.declared.items.Item.{Item}
+use Rattle.hour.specs.declared.items.Item.TheVariants.{Buy, Sell, Line}
 
 abbrev pub nth : ℕ → ℕ → ℕ → Item
 nth b s k = cond (nat_lt k b) (Buy k) (cond (nat_lt (k - b) s) (Sell (k - b)) (Line (k - b - s)))
@@ -54,17 +47,12 @@ capacity m (Line k) = (line m.lines k).capacity
 abbrev pub cost : Market → Item → ℕ
 cost m (Buy k) = 0
 cost m (Sell k) = (bid m.sells k).price
-cost m (Line k) = 0
+cost m (Line k) = (line m.lines k).cost
 
 abbrev pub gain : Market → Item → ℕ
 gain m (Buy k) = (bid m.buys k).price
 gain m (Sell k) = 0
 gain m (Line k) = 0
-
-abbrev pub carried : Outcome → Item → ℕ
-carried o (Buy k) = at o.bought k
-carried o (Sell k) = at o.sold k
-carried o (Line k) = at o.flow k
 
 abbrev pub sum : Market → (Item → ℕ) → ℕ
 sum m f =
@@ -94,14 +82,10 @@ abbrev pub price : Market → List ℕ → ℕ → ℕ
 price m ps n = cond (nat_lt n m.zones) (at ps n) 0
 
 abbrev pub unit_cost : Market → List ℕ → Item → ℕ
-unit_cost m ps (Buy k) = at ps (bid m.buys k).zone
-unit_cost m ps (Sell k) = (bid m.sells k).price
-unit_cost m ps (Line k) = at ps (line m.lines k).from
+unit_cost m ps i = (terms m ps i).cost
 
 abbrev pub unit_value : Market → List ℕ → Item → ℕ
-unit_value m ps (Buy k) = (bid m.buys k).price
-unit_value m ps (Sell k) = at ps (bid m.sells k).zone
-unit_value m ps (Line k) = at ps (line m.lines k).to
+unit_value m ps i = (terms m ps i).value
 
 abbrev pub ContentItem : Market → Outcome → List ℕ → Item → Type 0
-ContentItem m o ps i = Content (capacity m i) (carried o i) (unit_cost m ps i) (unit_value m ps i)
+ContentItem m o ps i = Content (terms m ps i) (carried o i)

@@ -6,10 +6,10 @@
 --   of_numbers made  what is made of a row's three numbers
 --   nth_row made t k row k of the table t, made of its three numbers; past the end all three are 0
 --   bids_in t        the bids of a table: zone, price, amount
---   lines_in t       the lines of a table: from, to, capacity
+--   lines_in t       the lines of a table: from, to, capacity; they cost nothing
 --   column_no c      the number of a column that holds zones
 --   zone_total       the amounts, together, of those items that have the zone z in column c
---   market_in        the market of so many zones with these tables of buys, sells and lines
+--   market_in        the market of so many zones with these tables of buys, sells and lines, and no supplies
 --   outcome_in       the outcome with these lists of amounts and flows
 use Rattle.std.specs.Prelude.{ℕ, ◌+◌, ◌*◌, ◌/◌, List, [], ◌∷◌, length, slice_index, slice_index_or}
 use Rattle.hour.specs.Listed.{listed}
@@ -42,11 +42,11 @@ abbrev pub bids_in : List ℕ → List Bid
 bids_in t = listed (items t) (λ k. record { zone = cell t k 0; price = cell t k 1; amount = cell t k 2 })
 
 abbrev pub lines_in : List ℕ → List Line
-lines_in t = listed (items t) (λ k. record { from = cell t k 0; to = cell t k 1; capacity = cell t k 2 })
+lines_in t = listed (items t) (λ k. record { from = cell t k 0; to = cell t k 1; capacity = cell t k 2; cost = 0 })
 
 abbrev pub market_in : ℕ → List ℕ → List ℕ → List ℕ → Market
 market_in zones buys sells lines =
-    record { zones = zones; buys = bids_in buys; sells = bids_in sells; lines = lines_in lines }
+    record { zones = zones; buys = bids_in buys; sells = bids_in sells; lines = lines_in lines; supplies = [] }
 
 abbrev pub outcome_in : List ℕ → List ℕ → List ℕ → Outcome
 outcome_in bought sold flow = record { bought = bought; sold = sold; flow = flow }

@@ -25,8 +25,8 @@ use Rattle.std.specs.Prelude.{◌≡◌, ℕ, zero, suc, ◌+◌, ◌-◌, ◌<�
 use Rattle.std.specs.List.{AllByRecursion}
 use Rattle.hour.specs.Market.{Market, Outcome, at}
 use Rattle.network.specs.Network.{Among, hub, tail, head, capacity, cost, gain, carried, price}
-use Rattle.network.specs.declared.arcs.Item.{Item}
-use Rattle.network.specs.declared.arcs.Item.TheVariants.{Buy, Sell, Line}
+use Rattle.hour.specs.declared.items.Item.{Item}
+use Rattle.hour.specs.declared.items.Item.TheVariants.{Buy, Sell, Line}
 use Rattle.network.specs.declared.arcs.Step.{Step}
 use Rattle.network.specs.declared.arcs.Step.TheVariants.{Forward, Backward}
 

@@ -8,8 +8,7 @@ ghost use Rattle.network.specs.Given.{outcome_given};
 ghost use Rattle.network.specs.Network.{carried, nth};
 ghost use Rattle.network.specs.Tables.{items, triples, of_numbers, nth_row, bids_in, lines_in, zone_total, column_no};
 
-use crate::arcs::Item;
-use hour::{Bid, Line};
+use hour::{Bid, Item, Line, number_at};
 
 #[derive(Clone, Copy)]
 pub struct Tables<'a> {
@@ -25,12 +24,6 @@ pub struct Amounts<'a> {
     pub bought: &'a [u64],
     pub sold: &'a [u64],
     pub flow: &'a [u64],
-}
-
-pub fn number_at(xs: &[u64], k: usize) -> u64
-    ensures { result ≡ at xs.now k }
-{
-    xs.get(k).copied().unwrap_or(0)
 }
 
 impl Amounts<'_> {
@@ -83,10 +76,15 @@ impl Row for Bid {
 }
 
 impl Row for Line {
-    ghost made = { λ from to capacity. record { from = from; to = to; capacity = capacity } };
+    ghost made = { λ from to capacity. record { from = from; to = to; capacity = capacity; cost = 0 } };
 
     fn of(from: u64, to: u64, capacity: u64) -> Line {
-        Line { from, to, capacity }
+        Line {
+            from,
+            to,
+            capacity,
+            cost: 0,
+        }
     }
 }
 
