@@ -2,7 +2,7 @@
 use Rattle.std.proofs.Common.{◌≡◌, ℕ, ◌<◌, true}
 use mathlib.Core.Path.{subst⁻¹}
 use Rattle.std.specs.List.{AllByRecursion}
-use Rattle.hour.specs.Market.{Market, Outcome, Proper}
+use Rattle.hour.specs.Market.{Market, Outcome, Proper, Plain}
 use Rattle.network.specs.Ways.{Fits}
 use Rattle.paths.proofs.WaysOut.{pays_off}
 use Rattle.paths.specs.Plan.{Plan, Planned, pays, closed_way}
@@ -11,10 +11,10 @@ use Rattle.circulation.specs.Sweep.{bottleneck}
 use Rattle.circulation.proofs.Bottleneck.{bottleneck_fits, free_among}
 
 pub ready_pays :
-    (m : Market) (o : Outcome) (t : Plan) → Proper m → Planned m o t → (v : ℕ) → v < m.zones → pays t v ≡ true →
+    (m : Market) (o : Outcome) (t : Plan) → Proper m → Plain m → Planned m o t → (v : ℕ) → v < m.zones → pays t v ≡ true →
     Ready m t v
-ready_pays m o t proper planned v below paid =
-    let off = pays_off m o t proper planned v below paid in
+ready_pays m o t proper plain planned v below paid =
+    let off = pays_off m o t proper plain planned v below paid in
     record { among = free_among m o (closed_way m t v) off.free; once = off.once }
 
 pub ready_fits :

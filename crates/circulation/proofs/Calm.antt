@@ -2,7 +2,7 @@
 use Rattle.std.proofs.Common.{◌≡◌, ℕ, ◌+◌, ◌<◌, ◌≤◌, cond, ltb, ◌≢◌, List, [], ◌∷◌, ap, inl, inr, arith}
 use Rattle.std.specs.List.{AllByRecursion}
 use Rattle.std.proofs.lemmas.Bool.{lt-ltb, le-ltb, cases_lt}
-use Rattle.hour.specs.Market.{Market, Outcome, Proper, at}
+use Rattle.hour.specs.Market.{Market, Outcome, Proper, Plain, at}
 use Rattle.network.specs.Network.{hub}
 use Rattle.network.specs.Ways.{start, finish, step_cost, step_gain, Free, Links, way_cost, way_gain}
 use Rattle.network.specs.declared.arcs.Step.{Step}
@@ -37,9 +37,9 @@ calm_back m t (Backward i) held apart = held
 
 -- Idea: a step to the hub gains no more than the zone's taker is worth; a line is in the labels.
 pub calm_free :
-    (m : Market) (o : Outcome) (t : Plan) → Proper m → Planned m o t → (s : Step) → Free m o s → Calm m t s
-calm_free m o t proper planned s free apart =
-    elim (free_kinds m o proper s free) [
+    (m : Market) (o : Outcome) (t : Plan) → Proper m → Plain m → Planned m o t → (s : Step) → Free m o s → Calm m t s
+calm_free m o t proper plain planned s free apart =
+    elim (free_kinds m o proper plain s free) [
       | inl to ↦
           let own = planned.labels.own (start m s) to.from (omega (arith, to.most)) in
           omega (

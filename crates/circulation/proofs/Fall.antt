@@ -3,12 +3,13 @@ use Rattle.std.proofs.Common.{◌≡◌, ℕ, zero, suc, ◌+◌, ◌-◌, ◌<�
 use Rattle.std.specs.List.{AllByRecursion}
 use Rattle.std.proofs.ByRecursion.{All-weaker}
 use Rattle.std.proofs.lemmas.Bool.{and_parts, cases_lt, ltb-true}
-use Rattle.hour.specs.Market.{Market, Outcome, Proper, at}
+use Rattle.hour.specs.Market.{Market, Outcome, Proper, Plain, at}
 use Rattle.network.specs.Network.{hub, carried}
 use Rattle.network.specs.Ways.{start, finish, step_cost, step_gain, room, Free, Links, moved, pushed}
-use Rattle.network.specs.declared.arcs.Item.TheVariants.{Line}
+use Rattle.hour.specs.declared.items.Item.TheVariants.{Line}
 use Rattle.network.specs.declared.arcs.Step.{Step}
 use Rattle.network.specs.declared.arcs.Step.TheVariants.{Forward, Backward}
+use Rattle.network.proofs.Plain.{line_cost}
 use Rattle.network.proofs.Ways.{carries}
 use Rattle.paths.specs.Bids.{item_no, taking, taker, own}
 use Rattle.paths.specs.Labels.{Leads, Along}
@@ -60,19 +61,19 @@ way_begins :
 way_begins m t zero v a b c one other = sym one.0 ∙ other.0
 way_begins m t (suc k) v a b c one other = sym one.0 ∙ other.0
 
-module _ (m : Market) (o : Outcome) (t : Plan) (proper : Proper m) (planned : Planned m o t) where
+module _ (m : Market) (o : Outcome) (t : Plan) (proper : Proper m) (plain : Plain m) (planned : Planned m o t) where
   -- Idea: the way from a zone is worth its label, so no step of it loses any; and the giver asks for less than that.
   pub closed_held :
       (v : ℕ) → 0 < at t.worth v → PaysOff m o t v → AllByRecursion (Held m t) (closed_way m t v)
   closed_held v some off =
-      let way = way_shown m o t proper planned v off.zone some in
+      let way = way_shown m o t proper plain planned v off.zone some in
       let ws = way_out m t (at t.far v) v in
       let ends = way_begins m t (at t.far v) v _ v (hub m) off.links.1 way.links in
       let at_v = ap (label m t) ends ∙ label_zone m t v off.zone in
       let at_hub = label_hub m t in
       let begins = ap (label m t) off.links.0 in
       let apart = All-weaker _ (λ s. start m s ≢ hub m) (λ s ne e. ne (e ∙ sym off.links.0)) ws off.once.0 in
-      let calm = All-weaker (Free m o) (Calm m t) (calm_free m o t proper planned) ws way.free in
+      let calm = All-weaker (Free m o) (Calm m t) (calm_free m o t proper plain planned) ws way.free in
       let rest =
       held_way m t v ws (hub m) way.links apart calm
       (omega (arith, way.worth, label_zone m t v off.zone, at_hub)) in
@@ -90,18 +91,18 @@ module _ (m : Market) (o : Outcome) (t : Plan) (proper : Proper m) (planned : Pl
       after paid =
           let asks = ltb-true _ _ (and_parts (ltb 0 (at t.ask v)) _ paid).1 in
           let some : 0 < at t.worth v = omega (arith, asks) in
-          let held = closed_held v some (pays_off m o t proper planned v h paid) in
+          let held = closed_held v some (pays_off m o t proper plain planned v h paid) in
           free_pushed m (Calm m t) (fitting m t v y) (closed_way m t v) y.outcome before
           (All-weaker (Held m t) (λ s. Calm m t (back s)) (calm_back m t) (closed_way m t v) held)
 
   pub calm_swept :
       (n : ℕ) → n ≤ m.zones → (x : Step) → Free m (swept m t n o).outcome x → Calm m t x
-  calm_swept zero h = calm_free m o t proper planned
+  calm_swept zero h = calm_free m o t proper plain planned
   calm_swept (suc n) h =
       calm_asked n (omega arith) (swept m t n o) (calm_swept n (omega arith))
 
 -- Idea: no free step raises the old labels, so no way through free steps is worth more than they say.
-module _ (m : Market) (p : Outcome) (t : Plan) (proper : Proper m) (calm : (x : Step) → Free m p x → Calm m t x) where
+module _ (m : Market) (p : Outcome) (t : Plan) (proper : Proper m) (plain : Plain m) (calm : (x : Step) → Free m p x → Calm m t x) where
   hub_bound :
       (s : Step) (z : ℕ) → z < m.zones → Free m p s → start m s ≡ z → finish m s ≡ hub m →
       suc (step_gain m s) ≤ at t.worth z + step_cost m s
@@ -145,17 +146,17 @@ module _ (m : Market) (p : Outcome) (t : Plan) (proper : Proper m) (calm : (x : 
   along_bound zero v c h own = omega (arith, own, own_bound v h)
   along_bound (suc k) v c h (l, w, inl leads, rest) =
       let below : w < m.zones = omega (arith, proper.to l leads.free.among, leads.to) in
-      omega (arith, line_bound (Forward (Line l)) v w h below leads, along_bound k w c below rest)
+      omega (arith, line_bound (Forward (Line l)) v w h below leads, along_bound k w c below rest, line_cost m plain l)
   along_bound (suc k) v c h (l, w, inr leads, rest) =
       let below : w < m.zones = omega (arith, proper.from l leads.free.among, leads.to) in
       omega (arith, line_bound (Backward (Line l)) v w h below leads, along_bound k w c below rest)
 
 pub labels_fall : LabelsFall
-labels_fall m o s t proper f planned after v h =
-    let calm = calm_swept m o s proper planned m.zones (omega arith) in
+labels_fall m o s t proper plain f planned after v h =
+    let calm = calm_swept m o s proper plain planned m.zones (omega arith) in
     elim (cases_lt 0 (at t.worth v)) [
       | inl some ↦
-          along_bound m (swept m s m.zones o).outcome s proper calm (at t.far v) v (at t.worth v) h
+          along_bound m (swept m s m.zones o).outcome s proper plain calm (at t.far v) v (at t.worth v) h
           (after.labels.way v h some)
       | inr none ↦ omega arith
     ]

@@ -6,7 +6,8 @@ use Rattle.hour.specs.Rules.{KeepsRules, BidKept}
 use Rattle.hour.specs.declared.items.Bid.{Bid}
 use Rattle.hour.proofs.Total.{total_same, total_none}
 use Rattle.network.specs.Network.{capacity}
-use Rattle.network.specs.declared.arcs.Item.TheVariants.{Buy, Sell, Line}
+use Rattle.hour.specs.declared.items.Item.TheVariants.{Buy, Sell, Line}
+use Rattle.network.proofs.Plain.{costs_none}
 use Rattle.circulation.specs.Promises.{top, StepsSound}
 use Rattle.circulation.proofs.Value.{value_top}
 
@@ -41,4 +42,5 @@ top_small m kept =
       none (length m.sells) (λ k. capacity m (Sell k)),
       none (length m.buys) (λ k. capacity m (Buy k)),
       none (length m.lines) (λ k. capacity m (Line k)),
+      costs_none m kept.plain (λ k. capacity m (Line k)),
     )

@@ -1,7 +1,7 @@
 -- Runs: sweep after sweep until no zone pays. Assumes nothing.
 use Rattle.std.proofs.Common.{◌≡◌, ℕ, zero, suc, ◌+◌, ◌<◌, true, is_some, Some, None, Option, sym, refl, ap, ◌∙◌, subst, arith}
 use Rattle.std.proofs.lemmas.Bool.{both_ways}
-use Rattle.hour.specs.Market.{Market, Outcome, Proper, Feasible}
+use Rattle.hour.specs.Market.{Market, Outcome, Proper, Plain, Feasible}
 use Rattle.paths.specs.Plan.{Plan, Planned, first_paying}
 use Rattle.paths.proofs.OnePlan.{one_plan}
 use Rattle.paths.proofs.SomePlan.{some_plan}
@@ -42,16 +42,16 @@ pub record Reaches (m : Market) (o p : Outcome) (n : ℕ) (t : Plan) : Type 0 wh
 
 -- Idea: each sweep is so many pushes; put them one behind the other.
 runs_reach :
-    (m : Market) → Proper m → (k : ℕ) (o p : Outcome) (n : ℕ) (t : Plan) → Feasible m o → Runs m k o n p t →
+    (m : Market) → Proper m → Plain m → (k : ℕ) (o p : Outcome) (n : ℕ) (t : Plan) → Feasible m o → Runs m k o n p t →
     Reaches m o p n t
-runs_reach m proper zero o p n t f (planned, none, count, same) =
+runs_reach m proper plain zero o p n t f (planned, none, count, same) =
     let here : Reaches m o o 0 t = record { sound = sound_none m o f; planned = planned; none_pays = none } in
     subst (λ q. Reaches m o q n t) (sym same) (subst (λ j. Reaches m o o j t) (sym count) here)
-runs_reach m proper (suc k) o p n t f (s, planned, some, (j, count, rest)) =
+runs_reach m proper plain (suc k) o p n t f (s, planned, some, (j, count, rest)) =
     let q = (swept m s m.zones o).outcome in
     let i = (swept m s m.zones o).pushes in
-    let sweep = swept_sound m o s proper planned f m.zones (omega arith) in
-    let later = runs_reach m proper k q p j t sweep.feasible rest in
+    let sweep = swept_sound m o s proper plain planned f m.zones (omega arith) in
+    let later = runs_reach m proper plain k q p j t sweep.feasible rest in
     record {
       sound = subst (StepsSound m o p) (sym count) (sound_append m o q p i j sweep later.sound);
       planned = later.planned;
@@ -59,16 +59,16 @@ runs_reach m proper (suc k) o p n t f (s, planned, some, (j, count, rest)) =
     }
 
 pub run_reaches :
-    (m : Market) (o p : Outcome) (n : ℕ) (t : Plan) → Proper m → Feasible m o → Run m o n p t → Reaches m o p n t
-run_reaches m o p n t proper f run = runs_reach m proper run.0 o p n t f run.1
+    (m : Market) (o p : Outcome) (n : ℕ) (t : Plan) → Proper m → Plain m → Feasible m o → Run m o n p t → Reaches m o p n t
+run_reaches m o p n t proper plain f run = runs_reach m proper plain run.0 o p n t f run.1
 
 pub push_by_push : PushByPush
-push_by_push m o p n t proper f run = (run_reaches m o p n t proper f run).sound
+push_by_push m o p n t proper plain f run = (run_reaches m o p n t proper plain f run).sound
 
 pub run_settles : RunSettles
-run_settles m o p n t proper f run =
-    let end = run_reaches m o p n t proper f run in
-    lowest_labels m p t proper end.sound.feasible end.planned end.none_pays
+run_settles m o p n t proper plain f run =
+    let end = run_reaches m o p n t proper plain f run in
+    lowest_labels m p t proper plain end.sound.feasible end.planned end.none_pays
 
 end_here :
     (m : Market) (o : Outcome) (t : Plan) → Feasible m o → Planned m o t → first_paying m t ≡ None → Ended m o
@@ -82,10 +82,10 @@ end_here m o t f planned none =
     }
 
 end_later :
-    (m : Market) (o : Outcome) (s : Plan) → Proper m → Feasible m o → Planned m o s →
+    (m : Market) (o : Outcome) (s : Plan) → Proper m → Plain m → Feasible m o → Planned m o s →
     is_some (first_paying m s) ≡ true → Ended m (swept m s m.zones o).outcome → Ended m o
-end_later m o s proper f planned some later =
-    let sweep = swept_sound m o s proper planned f m.zones (omega arith) in
+end_later m o s proper plain f planned some later =
+    let sweep = swept_sound m o s proper plain planned f m.zones (omega arith) in
     record {
       count = (swept m s m.zones o).pushes + later.count;
       end = later.end;
@@ -96,13 +96,13 @@ end_later m o s proper f planned some later =
 
 -- Idea: while a zone pays a sweep raises the value, and the value has a top.
 run_within :
-    (m : Market) → Proper m → (fuel : ℕ) (o : Outcome) → Feasible m o → top m < value m o + fuel →
+    (m : Market) → Proper m → Plain m → (fuel : ℕ) (o : Outcome) → Feasible m o → top m < value m o + fuel →
     Ended m o
-run_within m proper zero o f enough =
+run_within m proper plain zero o f enough =
     let never : ⊥ = omega (arith, value_top m o f) in
     absurd never
-run_within m proper (suc fuel) o f enough =
-    go (first_paying m s) refl (run_within m proper fuel (swept m s m.zones o).outcome)
+run_within m proper plain (suc fuel) o f enough =
+    go (first_paying m s) refl (run_within m proper plain fuel (swept m s m.zones o).outcome)
   where
     s : Plan
     s = (some_plan m o proper).0
@@ -117,13 +117,13 @@ run_within m proper (suc fuel) o f enough =
         (r : Option ℕ) → first_paying m s ≡ r → (Feasible m q → top m < value m q + fuel → Ended m q) → Ended m o
     go None e later = end_here m o s f planned e
     go (Some v) e later =
-        let sweep = swept_sound m o s proper planned f m.zones (omega arith) in
+        let sweep = swept_sound m o s proper plain planned f m.zones (omega arith) in
         let some = ap is_some e in
-        let grows = some_pushes m o s proper planned some in
-        end_later m o s proper f planned some (later sweep.feasible (omega (arith, sweep.rises, grows)))
+        let grows = some_pushes m o s proper plain planned some in
+        end_later m o s proper plain f planned some (later sweep.feasible (omega (arith, sweep.rises, grows)))
 
 pub run_ends : RunEnds
-run_ends m o proper f = run_within m proper (suc (top m)) o f (omega arith)
+run_ends m o proper plain f = run_within m proper plain (suc (top m)) o f (omega arith)
 
 one_end :
     (m : Market) (t : Plan) → first_paying m t ≡ None → is_some (first_paying m t) ≡ true → ⊥

@@ -1,7 +1,7 @@
 -- A sweep: each zone that pays pushes, and the first of them always does. Assumes nothing.
 use Rattle.std.proofs.Common.{◌≡◌, ℕ, zero, suc, ◌<◌, ◌≤◌, true, false, is_some, Some, refl, ap, ◌∙◌, inl, inr, arith}
 use Rattle.std.proofs.lemmas.Bool.{cases_eq}
-use Rattle.hour.specs.Market.{Market, Outcome, Proper, Feasible}
+use Rattle.hour.specs.Market.{Market, Outcome, Proper, Plain, Feasible}
 use Rattle.network.specs.Network.{hub}
 use Rattle.paths.specs.Plan.{Plan, Planned, pays, closed_way, way_out, first_paying}
 use Rattle.paths.specs.Promises.{PaysOff}
@@ -50,7 +50,7 @@ pushes_grow m o t k (suc n) h =
     grows : (y : Tally) → y.pushes ≤ (asked m t n y).pushes
     grows y = asked_keeps m t n y (λ z. y.pushes ≤ z.pushes) (omega arith) (λ paid some. omega arith)
 
-module _ (m : Market) (o : Outcome) (t : Plan) (proper : Proper m) (planned : Planned m o t) where
+module _ (m : Market) (o : Outcome) (t : Plan) (proper : Proper m) (plain : Plain m) (planned : Planned m o t) where
   -- Idea: a zone that pays pushes along a way that is closed and gains, whatever was pushed before; others do nothing.
   pub asked_sound :
       (v : ℕ) → v < m.zones → (y : Tally) → StepsSound m o y.outcome y.pushes →
@@ -58,7 +58,7 @@ module _ (m : Market) (o : Outcome) (t : Plan) (proper : Proper m) (planned : Pl
   asked_sound v h y sound =
       asked_keeps m t v y (λ z. StepsSound m o z.outcome z.pushes) sound
       (λ paid some. sound_more m o y.outcome y.pushes (closed_way m t v) (fitting m t v y) sound
-      (pays_now m o y.outcome t v (pays_off m o t proper planned v h paid) some))
+      (pays_now m o y.outcome t v (pays_off m o t proper plain planned v h paid) some))
 
   pub swept_sound :
       Feasible m o → (n : ℕ) → n ≤ m.zones → StepsSound m o (swept m t n o).outcome (swept m t n o).pushes
@@ -71,7 +71,7 @@ module _ (m : Market) (o : Outcome) (t : Plan) (proper : Proper m) (planned : Pl
       (asked m t v y).pushes ≡ 1
   asked_first v h paid y e =
       let start : Tally = record { outcome = o; pushes = 0 } in
-      let some = bottleneck_some m o _ (way_out m t _ v) (pays_off m o t proper planned v h paid).free in
+      let some = bottleneck_some m o _ (way_out m t _ v) (pays_off m o t proper plain planned v h paid).free in
       ap (λ z. (asked m t v z).pushes) e ∙ ap (λ z. z.pushes) (asked_pushes m t v start paid some)
 
   -- Idea: the zones before the first that pays change nothing, so its way is still free; later zones only add pushes.

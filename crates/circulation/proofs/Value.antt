@@ -4,9 +4,9 @@ use Rattle.hour.specs.Market.{Market, Outcome, Feasible}
 use Rattle.network.specs.Network.{capacity, cost, gain, gained, spent, weighed, sum}
 use Rattle.network.specs.Ways.{way_cost, way_gain}
 use Rattle.network.specs.Promises.{PushDone}
-use Rattle.network.specs.declared.arcs.Item.{Item}
+use Rattle.hour.specs.declared.items.Item.{Item}
 use Rattle.network.specs.declared.arcs.Step.{Step}
-use Rattle.network.proofs.Market.{within, worth_gained, worth_spent}
+use Rattle.network.proofs.Market.{within, worth_gained, costs_spent}
 use Rattle.network.proofs.Sum.{sum_le}
 use Rattle.circulation.specs.Promises.{all_gain, all_cost, value, top}
 
@@ -35,6 +35,6 @@ value_push m o p ss d f done some gains =
       spent_le m p done.feasible,
       worth_gained m o,
       worth_gained m p,
-      worth_spent m o,
-      worth_spent m p,
+      costs_spent m o,
+      costs_spent m p,
     )

@@ -6,8 +6,8 @@ use Rattle.network.proofs.Rows.{length_bids_in, length_lines_in}
 use Rattle.network.proofs.Ways.{fits_rest}
 use Rattle.network.specs.Network.{Among}
 use Rattle.network.specs.Ways.{Fits, Once, moved, pushed}
-use Rattle.network.specs.declared.arcs.Item.{Item}
-use Rattle.network.specs.declared.arcs.Item.TheVariants.{Buy, Sell, Line}
+use Rattle.hour.specs.declared.items.Item.{Item}
+use Rattle.hour.specs.declared.items.Item.TheVariants.{Buy, Sell, Line}
 use Rattle.network.specs.declared.arcs.Step.{Step}
 use Rattle.network.specs.declared.arcs.Step.TheVariants.{Forward, Backward}
 use Rattle.network.specs.declared.tables.Tables.{Tables}

@@ -1,4 +1,4 @@
--- What a run promises. Assumes nothing.
+-- What a run promises, of plain markets all but OneRun. Assumes nothing.
 --
 --   all_gain, all_cost  what all buys gain if they carry all that they can; what all sells cost then
 --   value m o           what the outcome o is worth, and what all sells together cost: never below 0, and a push raises it
@@ -14,12 +14,15 @@
 --   LabelsFall          labels never rise from one search to the next
 --   Cleared m           an outcome that can be carried out, and prices that settle it, one for each zone, the lowest that
 --                       settle anything
---   Always              every proper market has an outcome that can be carried out and prices that settle it, the lowest that
+--   Always              every proper and plain market has an outcome that can be carried out and prices that settle it, the lowest that
 --                       settle anything
+--   ClearedByLists m    an outcome that can be carried out, and prices that settle it, one for each zone, in the words by lists
+--   AlwaysByLists       every market that is proper and plain has them
 use Rattle.std.specs.Prelude.{◌≡◌, ℕ, ◌+◌, ◌-◌, ◌*◌, ◌<◌, ◌≤◌, List, length}
-use Rattle.hour.specs.Market.{Market, Outcome, Proper, Feasible, Settled, at}
+use Rattle.hour.specs.Market.{Market, Outcome, Proper, Plain, Feasible, Settled, at}
 use Rattle.network.specs.Network.{capacity, cost, gain, gained, spent, sum}
 use Rattle.network.specs.Prices.{LowestOf, Lowest}
+use Rattle.network.specs.ByLists.{FeasibleByLists, ProperByLists, SettledByLists}
 use Rattle.paths.specs.Plan.{Plan, Planned}
 use Rattle.paths.specs.Promises.{prices_of}
 use Rattle.circulation.specs.Sweep.{swept}
@@ -44,11 +47,11 @@ pub record StepsSound (m : Market) (o p : Outcome) (n : ℕ) : Type 0 where
 
 abbrev pub PushByPush : Type 0
 PushByPush =
-    (m : Market) (o p : Outcome) (n : ℕ) (t : Plan) → Proper m → Feasible m o → Run m o n p t → StepsSound m o p n
+    (m : Market) (o p : Outcome) (n : ℕ) (t : Plan) → Proper m → Plain m → Feasible m o → Run m o n p t → StepsSound m o p n
 
 abbrev pub RunSettles : Type 0
 RunSettles =
-    (m : Market) (o p : Outcome) (n : ℕ) (t : Plan) → Proper m → Feasible m o → Run m o n p t →
+    (m : Market) (o p : Outcome) (n : ℕ) (t : Plan) → Proper m → Plain m → Feasible m o → Run m o n p t →
     LowestOf m p (prices_of t) × Lowest m (prices_of t)
 
 pub record SameRun (n j : ℕ) (p q : Outcome) (s t : Plan) : Type 0 where
@@ -68,11 +71,11 @@ pub record Ended (m : Market) (o : Outcome) : Type 0 where
   pub few : value m o + count ≤ top m
 
 abbrev pub RunEnds : Type 0
-RunEnds = (m : Market) (o : Outcome) → Proper m → Feasible m o → Ended m o
+RunEnds = (m : Market) (o : Outcome) → Proper m → Plain m → Feasible m o → Ended m o
 
 abbrev pub LabelsFall : Type 0
 LabelsFall =
-    (m : Market) (o : Outcome) (s t : Plan) → Proper m → Feasible m o → Planned m o s →
+    (m : Market) (o : Outcome) (s t : Plan) → Proper m → Plain m → Feasible m o → Planned m o s →
     Planned m (swept m s m.zones o).outcome t → (v : ℕ) → v < m.zones → at t.worth v ≤ at s.worth v
 
 pub record Cleared (m : Market) : Type 0 where
@@ -84,4 +87,14 @@ pub record Cleared (m : Market) : Type 0 where
   pub one_each : length prices ≡ m.zones
 
 abbrev pub Always : Type 0
-Always = (m : Market) → Proper m → Cleared m
+Always = (m : Market) → Proper m → Plain m → Cleared m
+
+pub record ClearedByLists (m : Market) : Type 0 where
+  pub outcome : Outcome
+  pub prices : List ℕ
+  pub feasible : FeasibleByLists m outcome
+  pub settled : SettledByLists m outcome prices
+  pub one_each : length prices ≡ m.zones
+
+abbrev pub AlwaysByLists : Type 0
+AlwaysByLists = (m : Market) → ProperByLists m → Plain m → ClearedByLists m

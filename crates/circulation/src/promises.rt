@@ -1,5 +1,5 @@
 // What a run promises: each function's contract is one statement, proved of the definitions.
-ghost use Rattle.circulation.specs.Promises.{PushByPush, RunSettles, OneRun, RunEnds, LabelsFall, Always};
+ghost use Rattle.circulation.specs.Promises.{PushByPush, RunSettles, OneRun, RunEnds, LabelsFall, Always, AlwaysByLists};
 
 pub fn push_by_push_holds()
     ensures { PushByPush }
@@ -23,4 +23,8 @@ pub fn labels_fall_holds()
 
 pub fn always_holds()
     ensures { Always }
+{}
+
+pub fn always_by_lists_holds()
+    ensures { AlwaysByLists }
 {}

@@ -9,8 +9,8 @@ use Rattle.std.proofs.lemmas.Bool.{cases_lt, and_parts, and_from, eqb-true, eq-e
 use Rattle.hour.specs.Market.{Market, Outcome}
 use Rattle.network.specs.Network.{Among, hub}
 use Rattle.network.specs.Ways.{Free, room, start, finish, item, step_cost, step_gain}
-use Rattle.network.specs.declared.arcs.Item.{Item}
-use Rattle.network.specs.declared.arcs.Item.TheVariants.{Buy, Sell, Line}
+use Rattle.hour.specs.declared.items.Item.{Item}
+use Rattle.hour.specs.declared.items.Item.TheVariants.{Buy, Sell, Line}
 use Rattle.network.specs.declared.arcs.Step.{Step}
 use Rattle.network.proofs.Items.{nth_buy, nth_sell, nth_line}
 use Rattle.paths.specs.Bids.{bids, item_no, taking, giving, zone_of, price_of, takes, gives, dearer, cheaper}

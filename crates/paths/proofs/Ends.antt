@@ -11,7 +11,7 @@ use Rattle.network.proofs.Rows.{length_lines_in}
 use Rattle.network.specs.Tables.{items}
 use Rattle.network.specs.Network.{Among}
 use Rattle.network.specs.Ways.{room, start, finish, item}
-use Rattle.network.specs.declared.arcs.Item.TheVariants as items
+use Rattle.hour.specs.declared.items.Item.TheVariants as items
 use Rattle.network.specs.declared.arcs.Step.{Step}
 use Rattle.network.specs.declared.arcs.Step.TheVariants.{Forward, Backward}
 use Rattle.network.specs.declared.tables.Amounts.{Amounts}

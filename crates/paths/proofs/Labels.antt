@@ -5,7 +5,7 @@ use Rattle.std.proofs.lemmas.Bool.{cases_lt, cases_eq, and_parts, and_from, or_l
 use Rattle.hour.specs.Market.{Market, Outcome, Proper, at, line}
 use Rattle.network.specs.Ways.{room, item, start, finish}
 use Rattle.network.specs.Network.{Among}
-use Rattle.network.specs.declared.arcs.Item.TheVariants.{Line}
+use Rattle.hour.specs.declared.items.Item.TheVariants.{Line}
 use Rattle.network.specs.declared.arcs.Step.{Step}
 use Rattle.network.specs.declared.arcs.Step.TheVariants.{Forward, Backward}
 use Rattle.paths.specs.Labels.{Leads, Over, Along, NoBetter, BestLabels}

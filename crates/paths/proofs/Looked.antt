@@ -9,8 +9,8 @@ use Rattle.network.proofs.Items.{nth_buy, nth_sell}
 use Rattle.network.proofs.Rows.{length_bids_in}
 use Rattle.network.specs.Tables.{items}
 use Rattle.network.specs.Ways.{room}
-use Rattle.network.specs.declared.arcs.Item.{Item}
-use Rattle.network.specs.declared.arcs.Item.TheVariants.{Buy, Sell}
+use Rattle.hour.specs.declared.items.Item.{Item}
+use Rattle.hour.specs.declared.items.Item.TheVariants.{Buy, Sell}
 use Rattle.network.specs.declared.tables.Amounts.{Amounts}
 use Rattle.network.specs.declared.tables.Tables.{Tables}
 use Rattle.paths.specs.Bids.{item_no, taking, giving, zone_of, price_of}

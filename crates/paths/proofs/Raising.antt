@@ -8,7 +8,7 @@ use Rattle.std.proofs.lemmas.List.{get_or-set_same, get_or-set_other}
 use Rattle.std.proofs.lemmas.Bool.{cases_eq, cases_lt}
 use Rattle.hour.specs.Market.{Market, Outcome, Proper, at}
 use Rattle.network.specs.Ways.{Free, start, finish}
-use Rattle.network.specs.declared.arcs.Item.TheVariants.{Line}
+use Rattle.hour.specs.declared.items.Item.TheVariants.{Line}
 use Rattle.network.specs.declared.arcs.Step.{Step}
 use Rattle.network.specs.declared.arcs.Step.TheVariants.{Forward, Backward}
 use Rattle.paths.specs.Bids.{own}

@@ -4,7 +4,7 @@ use Rattle.std.specs.List.{AllByRecursion}
 use Rattle.std.proofs.lemmas.List.{get_or-map}
 use Rattle.std.proofs.lemmas.Bool.{cases_lt, and_cases, ltb-false}
 use Rattle.hour.proofs.First.{when_none, first_none}
-use Rattle.hour.specs.Market.{Market, Outcome, Proper, at}
+use Rattle.hour.specs.Market.{Market, Outcome, Proper, Plain, at}
 use Rattle.network.specs.Network.{hub, price}
 use Rattle.network.specs.Ways.{Free, Links, start, finish, step_cost, step_gain, Resting, Reached}
 use Rattle.network.specs.declared.arcs.Step.{Step}
@@ -16,7 +16,7 @@ use Rattle.paths.proofs.Best.{first_passing}
 use Rattle.paths.proofs.Steps.{ToHub, FromHub, Across, free_kinds}
 use Rattle.paths.proofs.WaysOut.{way_of, way_shown, pays_off}
 
-module _ (m : Market) (o : Outcome) (t : Plan) (proper : Proper m) (p : Planned m o t) where
+module _ (m : Market) (o : Outcome) (t : Plan) (proper : Proper m) (plain : Plain m) (p : Planned m o t) where
   -- what the label of a zone says as a price
   label_price : (v : ℕ) → v < m.zones → at (prices_of t) v ≡ at t.worth v - 1
   label_price v below = get_or-map (λ c. c - 1) t.worth v 0 0 (omega (arith, p.worth_long))
@@ -42,7 +42,7 @@ module _ (m : Market) (o : Outcome) (t : Plan) (proper : Proper m) (p : Planned 
   nowhere v [] below none links free = omega arith
   nowhere v (s ∷ ss) below none links free =
       let here : at t.worth (start m s) ≡ 0 = ap (at t.worth) links.0 ∙ none in
-      elim (free_kinds m o proper s free.0) [
+      elim (free_kinds m o proper plain s free.0) [
         | inl to ↦ omega (arith, to_hub_le s to)
         | inr (inl from) ↦ omega (arith, from.from, links.0)
         | inr (inr over) ↦
@@ -66,7 +66,7 @@ module _ (m : Market) (o : Outcome) (t : Plan) (proper : Proper m) (p : Planned 
     -- Idea: a taker is worth at most the label, a giver asks at least that much, and lines pass labels on.
     pub labels_rest : Resting m o (prices_of t)
     labels_rest s free =
-        elim (free_kinds m o proper s free) [
+        elim (free_kinds m o proper plain s free) [
           | inl to ↦
               omega (
                 arith,
@@ -97,7 +97,7 @@ module _ (m : Market) (o : Outcome) (t : Plan) (proper : Proper m) (p : Planned 
     labels_reached v below =
         elim (cases_lt 0 (at t.worth v)) [
           | inl some ↦
-              let way = way_of m o t proper p (at t.far v) v below some refl in
+              let way = way_of m o t proper plain p (at t.far v) v below some refl in
               inr (record {
                 steps = _;
                 links = way.links;
@@ -112,7 +112,7 @@ module _ (m : Market) (o : Outcome) (t : Plan) (proper : Proper m) (p : Planned 
     shortest =
         record {
           no_gain = λ a ss links free. omega (arith, free_way_le m o (prices_of t) labels_rest a ss a links free);
-          way = way_shown m o t proper p;
+          way = way_shown m o t proper plain p;
           best = λ v below ss links free.
               omega (
                 arith,
@@ -124,17 +124,17 @@ module _ (m : Market) (o : Outcome) (t : Plan) (proper : Proper m) (p : Planned 
         }
 
 pub lowest_labels : LowestLabels
-lowest_labels m o t proper feasible p unpaid =
+lowest_labels m o t proper plain feasible p unpaid =
     let rest = at_rest m o (prices_of t) proper feasible in
-    let resting = labels_rest m o t proper p unpaid in
-    let reached = labels_reached m o t proper p unpaid in
+    let resting = labels_rest m o t proper plain p unpaid in
+    let reached = labels_reached m o t proper plain p unpaid in
     (record { settled = rest.settles resting; below = rest.below reached }, rest.lowest resting reached)
 
 pub plan_shown : PlanShown
-plan_shown m o t proper feasible p = go (first_paying m t) refl
+plan_shown m o t proper plain feasible p = go (first_paying m t) refl
   where
     go : (r : Option ℕ) → first_paying m t ≡ r → Shown m o t r
-    go None unpaid = shortest m o t proper p unpaid
+    go None unpaid = shortest m o t proper plain p unpaid
     go (Some v) found =
         let paying = first_passing (pays t) m.zones v found in
-        pays_off m o t proper p v paying.below paying.passes
+        pays_off m o t proper plain p v paying.below paying.passes

@@ -9,7 +9,7 @@ use Rattle.hour.specs.Total.{total}
 use Rattle.hour.proofs.Total.{total_part}
 use Rattle.network.specs.Network.{Among}
 use Rattle.network.specs.Ways.{room, item, start, finish}
-use Rattle.network.specs.declared.arcs.Item.TheVariants.{Line}
+use Rattle.hour.specs.declared.items.Item.TheVariants.{Line}
 use Rattle.network.specs.declared.arcs.Step.{Step}
 use Rattle.network.specs.declared.arcs.Step.TheVariants.{Forward, Backward}
 use Rattle.paths.specs.Best.{numbered}

@@ -5,13 +5,14 @@
 --   Across m o s      s leads over a line, and neither costs nor gains
 use Rattle.std.proofs.Common.{◌≡◌, ℕ, suc, ◌+◌, ◌-◌, ◌<◌, ◌≤◌, ◌⊎◌, ltb, length, refl, subst, inl, inr, arith}
 use Rattle.std.proofs.lemmas.Bool.Decides.{nat_tests}
-use Rattle.hour.specs.Market.{Market, Outcome, Proper, line}
+use Rattle.hour.specs.Market.{Market, Outcome, Proper, Plain, line}
 use Rattle.network.specs.Network.{hub}
 use Rattle.network.specs.Ways.{Free, room, start, finish, step_cost, step_gain}
-use Rattle.network.specs.declared.arcs.Item.{Item}
-use Rattle.network.specs.declared.arcs.Item.TheVariants.{Buy, Sell, Line}
+use Rattle.hour.specs.declared.items.Item.{Item}
+use Rattle.hour.specs.declared.items.Item.TheVariants.{Buy, Sell, Line}
 use Rattle.network.specs.declared.arcs.Step.{Step}
 use Rattle.network.specs.declared.arcs.Step.TheVariants.{Forward, Backward}
+use Rattle.network.proofs.Plain.{line_cost}
 use Rattle.paths.specs.Bids.{bids, item_no, taking, giving, zone_of, price_of, giver, worth_at, own}
 use Rattle.paths.specs.Labels.{Over}
 use Rattle.paths.proofs.Bids.{buy_no, sell_no, own_most, ask_least}
@@ -68,15 +69,15 @@ module _ (m : Market) (o : Outcome) where
       × (worth_at m (giver m o (zone_of m x)) ≤ suc (price_of m x))) is
       (ask_least m o (zone_of m (item_no m j)) j below refl)
 
-  pub free_kinds : Proper m → (s : Step) → Free m o s → ToHub m o s ⊎ (FromHub m o s ⊎ Across m o s)
-  free_kinds proper (Forward (Buy k)) f =
+  pub free_kinds : Proper m → Plain m → (s : Step) → Free m o s → ToHub m o s ⊎ (FromHub m o s ⊎ Across m o s)
+  free_kinds proper plain (Forward (Buy k)) f =
       inl (record {
         from = proper.buys k f.among;
         to = refl;
         costs = refl;
         most = item_most (Buy k) k (buy_no m k f.among) (omega (arith, f.among)) f.room;
       })
-  free_kinds proper (Backward (Sell k)) f =
+  free_kinds proper plain (Backward (Sell k)) f =
       let below : length m.buys + k < bids m = omega (arith, f.among) in
       inl (record {
         from = proper.sells k f.among;
@@ -84,7 +85,7 @@ module _ (m : Market) (o : Outcome) where
         costs = refl;
         most = item_most (Sell k) (length m.buys + k) (sell_no m k f.among) below f.room;
       })
-  free_kinds proper (Backward (Buy k)) f =
+  free_kinds proper plain (Backward (Buy k)) f =
       let asks = item_least (Buy k) k (buy_no m k f.among) (omega (arith, f.among)) f.room in
       inr (inl (record {
         from = refl;
@@ -93,7 +94,7 @@ module _ (m : Market) (o : Outcome) where
         some = asks.0;
         least = asks.1;
       }))
-  free_kinds proper (Forward (Sell k)) f =
+  free_kinds proper plain (Forward (Sell k)) f =
       let below : length m.buys + k < bids m = omega (arith, f.among) in
       let asks = item_least (Sell k) (length m.buys + k) (sell_no m k f.among) below f.room in
       inr (inl (record {
@@ -103,21 +104,21 @@ module _ (m : Market) (o : Outcome) where
         some = asks.0;
         least = asks.1;
       }))
-  free_kinds proper (Forward (Line l)) f =
+  free_kinds proper plain (Forward (Line l)) f =
       inr (inr (record {
         number = l;
         over = over_forward m o l f;
         from = proper.from l f.among;
         to = proper.to l f.among;
-        costs = refl;
+        costs = line_cost m plain l;
         gains = refl;
       }))
-  free_kinds proper (Backward (Line l)) f =
+  free_kinds proper plain (Backward (Line l)) f =
       inr (inr (record {
         number = l;
         over = over_backward m o l f;
         from = proper.to l f.among;
         to = proper.from l f.among;
         costs = refl;
-        gains = refl;
+        gains = line_cost m plain l;
       }))

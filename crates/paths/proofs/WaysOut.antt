@@ -7,13 +7,14 @@ use mathlib.Core.Path.{subst⁻¹}
 use Rattle.std.specs.List.{AllByRecursion}
 use Rattle.std.proofs.ByRecursion.{All-weaker}
 use Rattle.std.proofs.lemmas.Bool.{and_parts, ltb-true, cond-true, cond-false, cond_both, eq-eqb, ne_eqb}
-use Rattle.hour.specs.Market.{Market, Outcome, Proper, at, line}
+use Rattle.hour.specs.Market.{Market, Outcome, Proper, Plain, at, line}
 use Rattle.network.specs.Network.{hub}
 use Rattle.network.specs.Ways.{Free, Links, Once, start, finish, step_cost, step_gain, way_cost, way_gain}
-use Rattle.network.specs.declared.arcs.Item.{Item}
-use Rattle.network.specs.declared.arcs.Item.TheVariants.{Buy, Sell, Line}
+use Rattle.hour.specs.declared.items.Item.{Item}
+use Rattle.hour.specs.declared.items.Item.TheVariants.{Buy, Sell, Line}
 use Rattle.network.specs.declared.arcs.Step.{Step}
 use Rattle.network.specs.declared.arcs.Step.TheVariants.{Forward, Backward}
+use Rattle.network.proofs.Plain.{line_cost}
 use Rattle.paths.specs.Best.{numbered}
 use Rattle.paths.specs.Bids.{bids, item_no, taking, giving, taker, giver, own}
 use Rattle.paths.specs.Labels.{Along}
@@ -37,11 +38,11 @@ record LineOut (m : Market) (s : Step) : Type 0 where
   costs : step_cost m s ≡ 0
   gains : step_gain m s ≡ 0
 
-step_out_line : (m : Market) (v l : ℕ) → Proper m → l < length m.lines → LineOut m (step_out m v (Line l))
-step_out_line m v l proper number =
+step_out_line : (m : Market) (v l : ℕ) → Proper m → Plain m → l < length m.lines → LineOut m (step_out m v (Line l))
+step_out_line m v l proper plain number =
     cond_both (eqb (line m.lines l).from v) (Forward (Line l)) (Backward (Line l)) (LineOut m)
-    (λ e. record { zone = proper.to l number; costs = refl; gains = refl })
-    (λ e. record { zone = proper.from l number; costs = refl; gains = refl })
+    (λ e. record { zone = proper.to l number; costs = line_cost m plain l; gains = refl })
+    (λ e. record { zone = proper.from l number; costs = refl; gains = line_cost m plain l })
 
 -- a closed way through the hub that gains more than it costs
 record Gaining (m : Market) (o : Outcome) (ss : List Step) : Type 0 where
@@ -62,7 +63,7 @@ pub record Next (m : Market) (o : Outcome) (t : Plan) (v : ℕ) (s : Step) : Typ
   pub as_much : at t.worth (finish m s) ≡ at t.worth v
   pub one_less : suc (at t.far (finish m s)) ≡ at t.far v
 
-module _ (m : Market) (o : Outcome) (t : Plan) (proper : Proper m) (p : Planned m o t) where
+module _ (m : Market) (o : Outcome) (t : Plan) (proper : Proper m) (plain : Plain m) (p : Planned m o t) where
   last_step : (v : ℕ) → v < m.zones → 0 < at t.worth v → at t.far v ≡ 0 → Last m o t v (out_step m t v)
   last_step v below some near =
       let is_own : own m o v ≡ at t.worth v =
@@ -100,7 +101,7 @@ module _ (m : Market) (o : Outcome) (t : Plan) (proper : Proper m) (p : Planned 
       let (l, found) = first_passes test lines j there.below there.passes in
       let passing = first_passing test lines l found in
       let on = onward_out m o t.worth t.far v l passing.below passing.passes in
-      let out = step_out_line m v l proper passing.below in
+      let out = step_out_line m v l proper plain passing.below in
       let table : at t.out v ≡ suc (bids m + l) =
       p.out v below
       ∙ cond-false _ _ _ (ne_eqb (at t.worth v) 0 (omega arith))

@@ -16,8 +16,8 @@ use Rattle.std.specs.Prelude.{ℕ, suc, ◌+◌, Bool, ◌&&◌, length, Some, N
 use Rattle.hour.specs.Market.{Market, Outcome, bid, line}
 use Rattle.network.specs.Network.{nth}
 use Rattle.network.specs.Ways.{room}
-use Rattle.network.specs.declared.arcs.Item.{Item}
-use Rattle.network.specs.declared.arcs.Item.TheVariants.{Buy, Sell, Line}
+use Rattle.hour.specs.declared.items.Item.{Item}
+use Rattle.hour.specs.declared.items.Item.TheVariants.{Buy, Sell, Line}
 use Rattle.network.specs.declared.arcs.Step.{Step}
 use Rattle.network.specs.declared.arcs.Step.TheVariants.{Forward, Backward}
 use Rattle.paths.specs.Best.{best}

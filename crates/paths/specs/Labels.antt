@@ -9,11 +9,11 @@
 --                        worth and far are what each zone's best way is worth and how many lines it takes; as a table has
 --                        it: 0 and 0 where no free way leads to the hub, else one more than its worth, and its lines
 --
--- Lines cost nothing, so a way is worth what its last step, along a taker's bid to the hub, is worth.
+-- In a plain market lines cost nothing, so a way is worth what its last step, along a taker's bid to the hub, is worth.
 use Rattle.std.specs.Prelude.{◌≡◌, ℕ, zero, suc, ◌<◌, ◌≤◌, ◌⊎◌, List}
 use Rattle.hour.specs.Market.{Market, Outcome, at}
 use Rattle.network.specs.Ways.{Free, start, finish}
-use Rattle.network.specs.declared.arcs.Item.TheVariants.{Line}
+use Rattle.hour.specs.declared.items.Item.TheVariants.{Line}
 use Rattle.network.specs.declared.arcs.Step.{Step}
 use Rattle.network.specs.declared.arcs.Step.TheVariants.{Forward, Backward}
 use Rattle.paths.specs.Bids.{own}

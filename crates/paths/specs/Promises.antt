@@ -8,13 +8,13 @@
 --   Shown m o t r      the one where no zone pays, the other for the zone that does
 --   OnePlan            the tables are fixed by the market and the outcome
 --   SomePlan           every outcome has such tables
---   PlanShown          tables that a search leaves show the one or the other
---   RingsEven          no closed way that avoids the hub gains or costs anything
+--   PlanShown          in a plain market, tables that a search leaves show the one or the other
+--   RingsEven          in a plain market, no closed way that avoids the hub gains or costs anything
 --   prices_of t        what the labels say as prices
---   LowestLabels       where no zone pays, the labels are the lowest prices, 0 where no way leads to the hub
+--   LowestLabels       in a plain market, where no zone pays, the labels are the lowest prices, 0 where no way leads to the hub
 use Rattle.std.specs.Prelude.{◌≡◌, ℕ, ◌+◌, ◌-◌, ◌<◌, ◌≤◌, ◌≢◌, List, map, Some, None, Option}
 use Rattle.std.specs.List.{AllByRecursion}
-use Rattle.hour.specs.Market.{Market, Outcome, Proper, Feasible, at}
+use Rattle.hour.specs.Market.{Market, Outcome, Proper, Plain, Feasible, at}
 use Rattle.network.specs.Network.{hub}
 use Rattle.network.specs.Prices.{LowestOf, Lowest}
 use Rattle.network.specs.Ways.{start, Free, Links, Once, way_cost, way_gain}
@@ -54,11 +54,11 @@ SomePlan = (m : Market) (o : Outcome) → Proper m → (t : Plan) × Planned m o
 
 abbrev pub PlanShown : Type 0
 PlanShown =
-    (m : Market) (o : Outcome) (t : Plan) → Proper m → Feasible m o → Planned m o t → Shown m o t (first_paying m t)
+    (m : Market) (o : Outcome) (t : Plan) → Proper m → Plain m → Feasible m o → Planned m o t → Shown m o t (first_paying m t)
 
 abbrev pub RingsEven : Type 0
 RingsEven =
-    (m : Market) (a : ℕ) (ss : List Step) → Links m a ss a → AllByRecursion (λ s. start m s ≢ hub m) ss →
+    (m : Market) (a : ℕ) (ss : List Step) → Plain m → Links m a ss a → AllByRecursion (λ s. start m s ≢ hub m) ss →
     (way_gain m ss ≡ 0) × (way_cost m ss ≡ 0)
 
 abbrev pub prices_of : Plan → List ℕ
@@ -66,5 +66,5 @@ prices_of t = map (λ c. c - 1) t.worth
 
 abbrev pub LowestLabels : Type 0
 LowestLabels =
-    (m : Market) (o : Outcome) (t : Plan) → Proper m → Feasible m o → Planned m o t → first_paying m t ≡ None →
+    (m : Market) (o : Outcome) (t : Plan) → Proper m → Plain m → Feasible m o → Planned m o t → first_paying m t ≡ None →
     LowestOf m o (prices_of t) × Lowest m (prices_of t)

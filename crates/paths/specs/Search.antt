@@ -23,8 +23,8 @@ use Rattle.hour.specs.declared.items.Bid.{Bid}
 use Rattle.network.specs.Given.{market_given, outcome_given}
 use Rattle.network.specs.Tables.{items}
 use Rattle.network.specs.Network.{Among, capacity}
-use Rattle.network.specs.declared.arcs.Item.{Item}
-use Rattle.network.specs.declared.arcs.Item.TheVariants.{Line}
+use Rattle.hour.specs.declared.items.Item.{Item}
+use Rattle.hour.specs.declared.items.Item.TheVariants.{Line}
 use Rattle.network.specs.declared.arcs.Step.{Step}
 use Rattle.network.specs.declared.arcs.Step.TheVariants.{Forward, Backward}
 use Rattle.network.specs.declared.tables.Amounts.{Amounts}

@@ -1,5 +1,6 @@
 use Rattle.std.proofs.Common.{ap, ◌∙◌, arith}
 use Rattle.hour.specs.Market.{at}
+use Rattle.network.proofs.Rows.{plain_in}
 use Rattle.paths.specs.Plan.{Planned}
 use Rattle.network.specs.Given.{market_given, outcome_given}
 use Rattle.paths.specs.Ways.{plan_of}
@@ -26,5 +27,5 @@ returns c =
     in
     record {
       planned = planned;
-      shown = λ feasible. plan_shown _ _ _ c.args.given.sound.tables.proper feasible planned;
+      shown = λ feasible. plan_shown _ _ _ c.args.given.sound.tables.proper (plain_in _ _ _ _) feasible planned;
     }
