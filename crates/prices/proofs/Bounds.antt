@@ -1,17 +1,18 @@
 -- An hour that keeps the rules fits the bounds of the search, and nothing can always be carried out. Assumes nothing.
-use Rattle.std.proofs.Common.{◌≡◌, ℕ, ◌+◌, ◌-◌, ◌^◌, ◌<◌, ◌≤◌, cond, eqb, List, length, replicate, sym, refl, ap, ◌∙◌, ap₂, inl, inr, arith}
+use Rattle.std.proofs.Common.{◌≡◌, ℕ, ◌-◌, ◌^◌, ◌<◌, ◌≤◌, cond, eqb, List, [], length, replicate, sym, refl, ap, ◌∙◌, inl, inr, arith}
 use mathlib.Core.Path.{subst⁻¹}
 use Rattle.std.proofs.lemmas.List.{length-replicate, get_or-replicate, ext_get_or, get_or_past, length-map, get_or-map}
 use Rattle.std.proofs.lemmas.Bool.{cases_lt}
 use Rattle.hour.proofs.Total.{total_same, total_none}
-use Rattle.hour.specs.Market.{Market, Proper, Feasible, at}
+use Rattle.hour.specs.Market.{Market, Proper, Plain, Feasible, at, bid, line}
 use Rattle.hour.specs.Rules.{KeepsRules}
 use Rattle.hour.specs.Total.{tagged}
 use Rattle.network.proofs.Rows.{length_bids_in, length_lines_in}
+use Rattle.network.proofs.Plain.{supply_none}
 use Rattle.network.specs.Network.{Among, capacity}
 use Rattle.network.specs.Tables.{bids_in, lines_in, market_in, outcome_in}
-use Rattle.network.specs.declared.arcs.Item.{Item}
-use Rattle.network.specs.declared.arcs.Item.TheVariants.{Buy, Sell, Line}
+use Rattle.hour.specs.declared.items.Item.{Item}
+use Rattle.hour.specs.declared.items.Item.TheVariants.{Buy, Sell, Line}
 use Rattle.network.specs.declared.tables.Tables.{Tables}
 use Rattle.paths.proofs.Zones.{worth_is}
 use Rattle.paths.specs.Promises.{prices_of}
@@ -81,30 +82,44 @@ no_part : (n : ℕ) (key : ℕ → ℕ) (v c : ℕ) → tagged n key v (at (repl
 no_part n key v c =
     total_same n _ (λ k. 0) (λ k below. cond_zero (eqb (key k) v) (at (replicate c 0) k) (at_zeros c k)) ∙ total_none n
 
-pub nothing_feasible : (m : Market) → Feasible m (nothing m)
-nothing_feasible m =
+pub nothing_feasible : (m : Market) → Plain m → Feasible m (nothing m)
+nothing_feasible m plain =
     record {
       buys = λ k below. omega (arith, at_zeros (length m.buys) k);
       sells = λ k below. omega (arith, at_zeros (length m.sells) k);
       lines = λ k below. omega (arith, at_zeros (length m.lines) k);
-      balance = λ z below.
-          ap₂ ◌+◌ (no_part _ _ z (length m.sells)) (no_part _ _ z (length m.lines))
-          ∙ sym (ap₂ ◌+◌ (no_part _ _ z (length m.buys)) (no_part _ _ z (length m.lines)));
+      balance = λ z below. omega (
+        arith,
+        no_part (length m.sells) (λ k. (bid m.sells k).zone) z (length m.sells),
+        no_part (length m.lines) (λ k. (line m.lines k).to) z (length m.lines),
+        no_part (length m.buys) (λ k. (bid m.buys k).zone) z (length m.buys),
+        no_part (length m.lines) (λ k. (line m.lines k).from) z (length m.lines),
+        supply_none m plain z,
+      );
     }
 
 pub zeros_feasible :
-    (m : Market) (bought sold flow : List ℕ) → bought ≡ replicate (length m.buys) 0 →
+    (m : Market) → Plain m → (bought sold flow : List ℕ) → bought ≡ replicate (length m.buys) 0 →
     sold ≡ replicate (length m.sells) 0 → flow ≡ replicate (length m.lines) 0 →
     Feasible m (outcome_in bought sold flow)
-zeros_feasible m bought sold flow b s f = rw (b, s, f) (nothing_feasible m)
+zeros_feasible m plain bought sold flow b s f = rw (b, s, f) (nothing_feasible m plain)
 
 -- tables that say the market m: what is said of it and of their market is the same
 module _
     (z : ℕ) (buys sells lines : List ℕ) (m : Market) (zones_are : z ≡ m.zones) (buys_are : bids_in buys ≡ m.buys)
     (sells_are : bids_in sells ≡ m.sells) (lines_are : lines_in lines ≡ m.lines)
+    (dry : m.supplies ≡ [])
   where
     pub market_laid : market_in z buys sells lines ≡ m
-    market_laid = λ i. record { zones = zones_are i; buys = buys_are i; sells = sells_are i; lines = lines_are i }
+    market_laid =
+        let supplies_are : [] ≡ m.supplies = sym dry in
+        λ i. record {
+          zones = zones_are i;
+          buys = buys_are i;
+          sells = sells_are i;
+          lines = lines_are i;
+          supplies = supplies_are i;
+        }
 
     pub kept_laid : KeepsRules m → KeepsRules (market_in z buys sells lines)
     kept_laid kept = subst⁻¹ KeepsRules market_laid kept

@@ -3,3 +3,4 @@ pub mod Bounds
 pub mod Shapes
 pub mod Promised
 pub mod Entries
+pub mod OneAnswer

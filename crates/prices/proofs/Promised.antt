@@ -13,9 +13,9 @@ use Rattle.prices.proofs.Bounds.{nothing_feasible}
 
 -- Idea: the run begins with nothing, which can be carried out; so each push keeps that, and the labels at its end settle.
 pub found_promised : FoundPromised
-found_promised m n o ps proper found =
-    let sound = push_by_push m (nothing m) o n found.tables proper (nothing_feasible m) found.run in
-    let settles = run_settles m (nothing m) o n found.tables proper (nothing_feasible m) found.run in
+found_promised m n o ps proper plain found =
+    let sound = push_by_push m (nothing m) o n found.tables proper plain (nothing_feasible m plain) found.run in
+    let settles = run_settles m (nothing m) o n found.tables proper plain (nothing_feasible m plain) found.run in
     let settled = subst⁻¹ (λ (qs : List ℕ). Settled m o qs) found.prices settles.0.settled in
     record {
       feasible = sound.feasible;
@@ -28,8 +28,8 @@ found_promised m n o ps proper found =
     }
 
 pub always_found : AlwaysFound
-always_found m proper =
-    let ended = run_ends m (nothing m) proper (nothing_feasible m) in
+always_found m proper plain =
+    let ended = run_ends m (nothing m) proper plain (nothing_feasible m plain) in
     record {
       count = ended.count;
       outcome = ended.end;

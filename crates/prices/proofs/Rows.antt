@@ -1,5 +1,5 @@
 -- Rows of a table, written one after another. Assumes nothing.
-use Rattle.std.proofs.Common.{◌≡◌, ℕ, ◌+◌, ◌-◌, ◌*◌, ◌<◌, ◌≤◌, List, length, get_or, ap, ◌∙◌, inl, inr, arith, rules}
+use Rattle.std.proofs.Common.{◌≡◌, ℕ, ◌+◌, ◌-◌, ◌*◌, ◌<◌, ◌≤◌, List, length, get_or, sym, ap, ◌∙◌, inl, inr, arith, rules}
 use borrow.Rule.Slice.PartMut.{put_mid}
 use Rattle.std.proofs.lemmas.Bool.{cases_lt}
 use Rattle.std.proofs.lemmas.List.{places}
@@ -44,7 +44,7 @@ module _ (n : ℕ) (t r : List ℕ) (room : 3 * n + 3 ≤ length t) (three : len
         | inr last ↦ let same : k ≡ n = omega arith in rw same (r, holds, laid_here)
       ]
 
--- a table whose rows are laid has the bids of a list, or its lines
+-- a table whose rows are laid has the bids of a list, or its lines, if these cost nothing
 pub bids_laid :
     (t : List ℕ) (n : ℕ) (bs : List Bid) → length t ≡ 3 * n → n ≡ length bs →
     ((k : ℕ) → k < n → (x : List ℕ) × (x ≡ bid_numbers (bid bs k)) × Laid t k x) → bids_in t ≡ bs
@@ -60,8 +60,9 @@ bids_laid t n bs long count laid =
 
 pub lines_laid :
     (t : List ℕ) (n : ℕ) (ls : List Line) → length t ≡ 3 * n → n ≡ length ls →
+    ((k : ℕ) → k < length ls → (line ls k).cost ≡ 0) →
     ((k : ℕ) → k < n → (x : List ℕ) × (x ≡ line_numbers (line ls k)) × Laid t k x) → lines_in t ≡ ls
-lines_laid t n ls long count laid =
+lines_laid t n ls long count costless laid =
     let rows : items t ≡ n = omega arith in
     listed_same (items t) _ ls _ (rows ∙ count)
     (λ k below.
@@ -69,4 +70,5 @@ lines_laid t n ls long count laid =
     let from = e.2.first ∙ ap (λ (x : List ℕ). get_or x 0 0) e.1 in
     let to = e.2.second ∙ ap (λ (x : List ℕ). get_or x 1 0) e.1 in
     let capacity = e.2.third ∙ ap (λ (x : List ℕ). get_or x 2 0) e.1 in
-    λ i. record { from = from i; to = to i; capacity = capacity i })
+    let cost = sym (costless k (omega arith)) in
+    λ i. record { from = from i; to = to i; capacity = capacity i; cost = cost i })

@@ -4,10 +4,10 @@ use Rattle.std.proofs.lemmas.Bool.{eqb-false, ltb-false, or_parts}
 use Rattle.hour.proofs.First.{else_none_left, else_none_right, when_none}
 use Rattle.hour.proofs.Kept.{bids_kept, lines_kept}
 use Rattle.hour.specs.First.{◌else◌}
-use Rattle.hour.specs.Market.{Market}
+use Rattle.hour.specs.Market.{Market, Plain}
 use Rattle.hour.specs.Rules.{bids_fault, all_lines_fault, counts_fault, item_fault, KeepsRules}
 use Rattle.hour.specs.declared.rules.Lengths.{Lengths}
-use Rattle.network.proofs.Rows.{length_bids_in, length_lines_in}
+use Rattle.network.proofs.Rows.{length_bids_in, length_lines_in, plain_in}
 use Rattle.network.specs.Tables.{items, bids_in, lines_in, market_in}
 use Rattle.prices.specs.Ended.{layout_fault, slices_fault, tables_fault}
 
@@ -22,8 +22,8 @@ items_counted z buys sells lines b s buy_rows sell_rows =
 -- what counts and items that break no rule say of a market
 pub rules_kept :
     (m : Market) → counts_fault m.zones (length m.buys) (length m.sells) (length m.lines) ≡ None →
-    item_fault m ≡ None → KeepsRules m
-rules_kept m counts each =
+    item_fault m ≡ None → Plain m → KeepsRules m
+rules_kept m counts each plain =
     let zones = or_parts (eqb m.zones 0) _ (when_none _ _ (else_none_left _ _ counts)) in
     let after_zones = else_none_right _ _ counts in
     let after_buys = else_none_right _ _ after_zones in
@@ -37,6 +37,7 @@ rules_kept m counts each =
       each_buy = bids_kept m.zones 0 m.buys (else_none_left _ _ each);
       each_sell = bids_kept m.zones (length m.buys) m.sells (else_none_left _ _ later);
       each_line = lines_kept m.zones (length m.buys + length m.sells) m.lines (else_none_right _ _ later);
+      plain = plain;
     }
 
 pub tables_kept :
@@ -48,3 +49,4 @@ tables_kept z buys sells lines has work none =
     rules_kept (market_in z buys sells lines)
     (rw (length_bids_in buys, length_bids_in sells, length_lines_in lines) (else_none_left _ _ layout))
     (else_none_right (slices_fault z buys sells lines has work) _ later)
+    (plain_in z buys sells lines)

@@ -11,9 +11,13 @@
 --   slices_fault ..      the first slice that is too short for them, of those that hold a result and of the work slice
 --   tables_fault ..      the first rule that tables and lent slices break: zones, counts, the tables' lengths, the slices, then
 --                        bid by bid and line by line, at the places of the written hour
+--   Lent                 what the five lent slices hold; lent b s f p w the five put together
+--   TablesAnswer z ..    what pins the answer r, of so many zones and these tables, to all numbers of slices that held old and
+--                        hold new; a lent slice keeps its length
 --
 -- Lent slices have numbers: bought 0, sold 1, flow 2, prices 3, and work 5, as where a ledger is lent too.
 use Rattle.std.specs.Prelude.{◌≡◌, ℕ, ◌+◌, ◌*◌, ◌%◌, ◌≤◌, not, List, ◌++◌, length, drop, replicate, Option, Result, Ok, Err, IfOk, ◌==◌}
+use Rattle.std.specs.Result.{result_err}
 use Rattle.hour.specs.First.{when, ◌else◌}
 use Rattle.hour.specs.Market.{Market}
 use Rattle.hour.specs.Rules.{counts_fault, item_fault, lent_fault, results_fault, max_bids, max_lines}
@@ -66,3 +70,31 @@ tables_fault zones buys sells lines has work =
     layout_fault zones buys sells lines
     else slices_fault zones buys sells lines has work
     else item_fault (market_in zones buys sells lines)
+
+pub record Lent : Type 0 where
+  pub bought : List ℕ
+  pub sold : List ℕ
+  pub flow : List ℕ
+  pub price : List ℕ
+  pub work : List ℕ
+
+abbrev pub lent : List ℕ → List ℕ → List ℕ → List ℕ → List ℕ → Lent
+lent bought sold flow price work =
+    record { bought = bought; sold = sold; flow = flow; price = price; work = work }
+
+pub record TablesAnswer (zones : ℕ) (buys sells lines : List ℕ) (old : Lent) (r : Result ℕ Refusal) (new : Lent) : Type 0 where
+  pub refusal :
+      result_err r
+      ≡ tables_fault zones buys sells lines
+      (lengths (length old.bought) (length old.sold) (length old.flow) (length old.price)) (length old.work)
+  pub found : FoundIn r (market_in zones buys sells lines) new.bought new.sold new.flow new.price
+  pub bought : Left r (items buys) old.bought new.bought
+  pub sold : Left r (items sells) old.sold new.sold
+  pub flow : Left r (items lines) old.flow new.flow
+  pub price : Left r zones old.price new.price
+  pub work : Wiped r (64 * (items buys + items sells + items lines)) old.work new.work
+  pub bought_long : length new.bought ≡ length old.bought
+  pub sold_long : length new.sold ≡ length old.sold
+  pub flow_long : length new.flow ≡ length old.flow
+  pub price_long : length new.price ≡ length old.price
+  pub work_long : length new.work ≡ length old.work

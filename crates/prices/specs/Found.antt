@@ -9,7 +9,7 @@
 --
 -- Of two sides of an order, what is subtracted stands on the other side.
 use Rattle.std.specs.Prelude.{◌≡◌, ℕ, ◌+◌, ◌≤◌, List, length, take}
-use Rattle.hour.specs.Market.{Market, Outcome, Feasible, Settled, worth}
+use Rattle.hour.specs.Market.{Market, Outcome, Feasible, Settled, worth, costs}
 use Rattle.network.specs.Prices.{Lowest, NoRegrets}
 use Rattle.network.specs.Tables.{outcome_in}
 use Rattle.paths.specs.Plan.{Plan}
@@ -45,7 +45,7 @@ pub record Found (m : Market) (n : ℕ) (o : Outcome) (ps : List ℕ) : Type 0 w
 abbrev pub BestOf : Market → Outcome → Type 0
 BestOf m o =
     (p : Outcome) → Feasible m p →
-    worth m.buys p.bought + worth m.sells o.sold ≤ worth m.buys o.bought + worth m.sells p.sold
+    worth m.buys p.bought + costs m o ≤ worth m.buys o.bought + costs m p
 
 pub record Promised (m : Market) (n : ℕ) (o : Outcome) (ps : List ℕ) : Type 0 where
   pub feasible : Feasible m o

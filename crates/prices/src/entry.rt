@@ -6,7 +6,7 @@ ghost use Rattle.hour.specs.Rules.{item_fault};
 ghost use Rattle.network.specs.Tables.{items, rows_in, nth_row, market_in};
 ghost use Rattle.network.specs.Given.{market_given};
 ghost use Rattle.prices.specs.Ended.{FoundIn, PromisedIn, Left, Wiped, ragged_fault, layout_fault};
-ghost use Rattle.prices.specs.Ended.{lengths, slices_fault, tables_fault, Small};
+ghost use Rattle.prices.specs.Ended.{lengths, slices_fault, tables_fault, Small, TablesAnswer, lent};
 
 use crate::tables::clear_slices;
 use hour::{Bid, Entry, Lengths, Line, Refusal, check_counts, check_lent, check_results};
@@ -88,7 +88,8 @@ fn check_tables(t: Tables, has: Lengths, work: usize) -> Result<(), Refusal>
 
 // Clears a market in tables, zone, price, amount of each bid and from, to, capacity of each line, beginning with nothing. Lent slices may be
 // longer than needed. On a refusal nothing is changed; else the work slice is left at zeros as far as it is needed. The slices stay apart as
-// they are lent: one value that holds five `&mut` needs a clause for each on what it gives back.
+// they are lent: one value that holds five `&mut` needs a clause for each on what it gives back. The clause `answer` has the others, but for
+// `promised`, in one record, to which only one answer is possible (`one_tables_answer_holds`).
 pub fn clear<'a>(
     zones: u64,
     buys: &'a [u64],
@@ -108,6 +109,7 @@ pub fn clear<'a>(
     ensures flow { Left result (items lines.now) flow.old flow.new }
     ensures price { Left result zones price.old price.new }
     ensures work { Wiped result (64 * (items buys.now + items sells.now + items lines.now)) work.old work.new }
+    ensures answer { TablesAnswer zones buys.now sells.now lines.now (lent bought.old sold.old flow.old price.old work.old) result (lent bought.new sold.new flow.new price.new work.new) }
 {
     let t = Tables {
         zones,

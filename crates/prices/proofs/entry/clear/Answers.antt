@@ -15,5 +15,5 @@ pub returns-clause-promised : goal.returns-clause-promised
 returns-clause-promised c =
     let a = c.args in
     let none = sym c.check_tables.ensures ∙ ap result_err c.in_ok-check_tables.was in
-    found_promised _ _ _ _ (proper_kept _ (tables_kept a.zones a.buys.now a.sells.now a.lines.now _ _ none))
-    c.clear_slices.ensures.found
+    let rules = tables_kept a.zones a.buys.now a.sells.now a.lines.now _ _ none in
+    found_promised _ _ _ _ (proper_kept _ rules) rules.plain c.clear_slices.ensures.found

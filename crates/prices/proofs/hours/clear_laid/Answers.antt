@@ -1,6 +1,6 @@
 use Rattle.std.proofs.Common.{arith}
 use Rattle.hour.proofs.First.{is_none}
-use Rattle.hour.proofs.Kept.{kept}
+use Rattle.hour.proofs.Kept.{kept, plain_said}
 use Rattle.hour.specs.Bytes.{market_of}
 use Rattle.prices.proofs.Bounds.{kept_laid}
 use Rattle.prices.proofs.hours.clear_laid.Goals as goal
@@ -11,7 +11,7 @@ clear_slices-requires c =
     record {
       kept =
           kept_laid _ _ _ _ (market_of bytes) c.zones.ensures c.lay_buys.ensures c.lay_sells.ensures
-          c.lay_lines.ensures (kept bytes (is_none _ c.args.hour.kept));
+          c.lay_lines.ensures (plain_said bytes).unsupplied (kept bytes (is_none _ c.args.hour.kept));
       room =
           record {
             bought_room = omega arith;

@@ -1,6 +1,6 @@
 use Rattle.std.proofs.Common.{arith}
 use Rattle.circulation.proofs.Few.{top_small}
-use Rattle.network.proofs.Rows.{length_bids_in, length_lines_in}
+use Rattle.network.proofs.Rows.{length_bids_in, length_lines_in, plain_in}
 use Rattle.network.specs.Given.{market_given}
 use Rattle.prices.proofs.Bounds.{bounded_kept, filled_with, zeros_feasible}
 use Rattle.prices.proofs.Entries.{front_long}
@@ -21,5 +21,5 @@ circulate-pushes-requires c =
       spaced = omega (arith, c.fill.ensures.len, c.fill-2.ensures.len, c.fill-3.ensures.len);
       zones = front_long _ _ (omega (arith, c.requires.kept.zones));
       few = omega (arith, top_small (market_given t) c.requires.kept);
-      feasible = zeros_feasible (market_given t) _ _ _ bought sold flow;
+      feasible = zeros_feasible (market_given t) (plain_in _ _ _ _) _ _ _ bought sold flow;
     }
