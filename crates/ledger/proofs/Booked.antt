@@ -2,7 +2,7 @@
 use Rattle.std.proofs.Common.{◌≡◌, ℕ, zero, suc, ◌+◌, ◌≤◌, List, length, drop, ◌+ℤ◌, sym, refl, ap, ◌∙◌, subst, ap₂, arith, w64, of_z}
 use Rattle.std.proofs.lemmas.List.{ext_get_or, get_or-drop, length-drop}
 use Rattle.hour.specs.Bytes.{market_of}
-use Rattle.hour.specs.Market.{Market, Outcome, Proper, at, count_of}
+use Rattle.hour.specs.Market.{Market, Outcome, Proper, at, line, count_of}
 use Rattle.hour.specs.Rules.{KeepsRules, max_price}
 use Rattle.hour.specs.declared.refusals.Sort.{Sort}
 use Rattle.network.proofs.Agree.{Agree, AgreePrices, feasible_agree, fronts_agree, front_prices}
@@ -10,17 +10,17 @@ use Rattle.network.proofs.Cap.{lowest_capped}
 use Rattle.network.specs.Network.{Among, carried}
 use Rattle.network.specs.Prices.{PricesTo}
 use Rattle.network.specs.Tables.{outcome_in}
-use Rattle.network.specs.declared.arcs.Item.{Item}
-use Rattle.network.specs.declared.arcs.Item.TheVariants.{Buy, Sell, Line}
+use Rattle.hour.specs.declared.items.Item.{Item}
+use Rattle.hour.specs.declared.items.Item.TheVariants.{Buy, Sell, Line}
 use Rattle.prices.proofs.Bounds.{proper_kept}
 use Rattle.prices.proofs.Promised.{found_promised}
 use Rattle.prices.specs.Found.{Found, Promised, result_in, prices_in}
 use Rattle.ledger.proofs.Even.{ledger_even}
-use Rattle.ledger.proofs.Limits.{among_item}
+use Rattle.ledger.proofs.Limits.{among_item, payable_lowest, read_as_money, sums_small}
 use Rattle.ledger.specs.Entry.{Slices, ClearedIn}
 use Rattle.network.specs.Given.{item}
-use Rattle.ledger.specs.Money.{above, base, owed, money, sumℤ, LedgerOf, Payable}
-use Rattle.ledger.specs.Promises.{Evens}
+use Rattle.ledger.specs.Money.{above, base, owed, money, sumℤ, LedgerOf, ReadAsMoney, Payable}
+use Rattle.ledger.specs.Promises.{Evens, Small}
 
 module _ (m : Market) (ps qs : List ℕ) (proper : Proper m) (same : AgreePrices m ps qs) where
   above_agree : (i : Item) → Among m i → above m ps i ≡ above m qs i
@@ -31,7 +31,7 @@ module _ (m : Market) (ps qs : List ℕ) (proper : Proper m) (same : AgreePrices
   base_agree : (i : Item) → Among m i → base m ps i ≡ base m qs i
   base_agree (Buy k) among = refl
   base_agree (Sell k) among = refl
-  base_agree (Line k) among = same _ (proper.from k among)
+  base_agree (Line k) among = ap (λ p. p + (line m.lines k).cost) (same _ (proper.from k among))
 
   module _ (o p : Outcome) (alike : Agree m o p) where
     pub money_agree : (i : Item) → Among m i → money m o ps i ≡ money m p qs i
@@ -58,12 +58,12 @@ module _ (m : Market) (kept : KeepsRules m) (bought sold flow price : List ℕ) 
       (n : ℕ) → Found m n (result_in m bought sold flow) (prices_in m price) →
       Payable m (outcome_in bought sold flow) price
   payable_found n found =
-      let promised = found_promised m n _ _ (proper_kept m kept) found in
+      let promised = found_promised m n _ _ (proper_kept m kept) kept.plain found in
       let dear : PricesTo m max_price =
       record { buys = λ k below. (kept.each_buy k below).price; sells = λ k below. (kept.each_sell k below).price } in
       record {
         feasible = feasible_agree m _ _ (fronts_agree m bought sold flow) promised.feasible;
-        prices = λ z below. omega (arith, lowest_capped m max_price _ promised.lowest dear z below, front_prices m price z below);
+        prices = λ z below. omega (arith, lowest_capped m max_price _ (proper_kept m kept) promised.lowest dear z below, front_prices m price z below);
       }
 
   pub booked_front :
@@ -84,10 +84,19 @@ behind_kept n xs ys long same =
 -- what is promised of an hour that was cleared
 module _ (m : Market) (kept : KeepsRules m) (n : ℕ) (old new : Slices) (done : ClearedIn m n old new) where
   pub promised_in : Promised m n (result_in m new.bought new.sold new.flow) (prices_in m new.price)
-  promised_in = found_promised m n _ _ (proper_kept m kept) done.found
+  promised_in = found_promised m n _ _ (proper_kept m kept) kept.plain done.found
+
+  payable_in : Payable m (result_in m new.bought new.sold new.flow) (prices_in m new.price)
+  payable_in = payable_lowest m _ _ kept promised_in.feasible promised_in.lowest
+
+  pub small_in : Small m (result_in m new.bought new.sold new.flow) (prices_in m new.price)
+  small_in = sums_small m _ _ kept payable_in
+
+  pub read_in : ReadAsMoney m (result_in m new.bought new.sold new.flow) (prices_in m new.price) new.ledger
+  read_in = read_as_money m _ _ _ kept payable_in done.booked
 
   pub closed_in : Evens m (result_in m new.bought new.sold new.flow) (prices_in m new.price)
-  closed_in = ledger_even m _ _ (proper_kept m kept) promised_in.feasible promised_in.settled
+  closed_in = ledger_even m _ _ (proper_kept m kept) kept.plain promised_in.feasible promised_in.settled
 
 pub same_market :
     (bs cs : List ℕ) → bs ≡ cs → (n : ℕ) (old new : Slices) → ClearedIn (market_of bs) n old new →

@@ -4,12 +4,13 @@ use mathlib.Core.Path.{subst⁻¹}
 use borrow.Author.Differences.{ints}
 use Rattle.std.proofs.lemmas.List.{get_or-replicate}
 use Rattle.std.proofs.lemmas.Bool.{cases_lt}
-use Rattle.hour.specs.Market.{Market, Outcome, Proper, Feasible, at, bid, line}
+use Rattle.hour.specs.Market.{Market, Outcome, Proper, Plain, Feasible, at, bid, line}
 use Rattle.hour.specs.Text.{zero_price}
 use Rattle.hour.specs.Total.{total}
 use Rattle.hour.specs.declared.refusals.Sort.TheVariants as sorts
-use Rattle.hour.proofs.Total.{total_same}
+use Rattle.hour.proofs.Total.{total_same, total_add}
 use Rattle.network.specs.Prices.{paid, sent, arrived}
+use Rattle.network.proofs.Plain.{supplied_none, costs_none}
 use Rattle.network.proofs.Prices.{paid_level, even}
 use Rattle.ledger.specs.Money.{owed, sumℤ, sum_of}
 use Rattle.ledger.specs.Promises.{LedgerEven}
@@ -51,13 +52,14 @@ flat zones n key x below =
 
 -- Idea: at one price everywhere, what the lines send is what arrives.
 pub bought_sold :
-    (m : Market) (o : Outcome) → Proper m → Feasible m o →
+    (m : Market) (o : Outcome) → Proper m → Plain m → Feasible m o →
     total (length m.buys) (λ k. zero_price * at o.bought k)
     ≡ total (length m.sells) (λ k. zero_price * at o.sold k)
-bought_sold m o proper feasible =
+bought_sold m o proper plain feasible =
     omega (
       arith,
       paid_level m o (replicate m.zones zero_price) proper feasible,
+      supplied_none m plain (replicate m.zones zero_price),
       flat m.zones (length m.buys) (λ k. (bid m.buys k).zone) (at o.bought) proper.buys,
       flat m.zones (length m.sells) (λ k. (bid m.sells k).zone) (at o.sold) proper.sells,
       flat m.zones (length m.lines) (λ k. (line m.lines k).from) (at o.flow) proper.from,
@@ -66,15 +68,19 @@ bought_sold m o proper feasible =
 
 -- Idea: each sum is what stands above less what stands below; as much is bought as is sold.
 pub ledger_even : LedgerEven
-ledger_even m o ps proper feasible settled =
+ledger_even m o ps proper plain feasible settled =
     record {
       even =
           let level = paid_level m o ps proper feasible in
-          let same = bought_sold m o proper feasible in
+          let dry = supplied_none m plain ps in
+          let same = bought_sold m o proper plain feasible in
           pays ∙ (omega (arith, ints) ∙ sym (ap₂ ◌+ℤ◌ gets earns));
       lines = λ k h.
           let up = (even m o ps proper feasible settled).lines k h in
-          let apart = owed_apart (at ps (line m.lines k).to) (at ps (line m.lines k).from) (at o.flow k) in
+          let begin = at ps (line m.lines k).from in
+          let own = (line m.lines k).cost in
+          let apart = owed_apart (at ps (line m.lines k).to) (begin + own) (at o.flow k) in
+          let cost = add-mul begin own (at o.flow k) in
           subst⁻¹ (λ z. pos 0 ≤ℤ z) apart (omega (arith, ints));
     }
   where
@@ -88,7 +94,24 @@ ledger_even m o ps proper feasible settled =
         ≡ pos (paid ps m.sells o.sold) -ℤ pos (total (length m.sells) (λ k. zero_price * at o.sold k))
     gets = sum_apart (length m.sells) (λ k. at ps (bid m.sells k).zone) (λ k. zero_price) (at o.sold)
 
+    -- what lines pay is what they send, as the flows cost nothing
+    begins :
+        total (length m.lines) (λ k. (at ps (line m.lines k).from + (line m.lines k).cost) * at o.flow k)
+        ≡ sent ps m.lines o.flow
+    begins =
+        let begin : ℕ → ℕ = λ k. at ps (line m.lines k).from * at o.flow k in
+        let own : ℕ → ℕ = λ k. (line m.lines k).cost * at o.flow k in
+        omega (
+          arith,
+          total_same (length m.lines) _ (λ k. begin k + own k)
+              (λ k h. add-mul (at ps (line m.lines k).from) (line m.lines k).cost (at o.flow k)),
+          total_add (length m.lines) begin own,
+          costs_none m plain (at o.flow),
+        )
+
     earns :
         sum_of m o ps sorts.Line ≡ pos (arrived ps m.lines o.flow) -ℤ pos (sent ps m.lines o.flow)
     earns =
-        sum_apart (length m.lines) (λ k. at ps (line m.lines k).to) (λ k. at ps (line m.lines k).from) (at o.flow)
+        sum_apart (length m.lines) (λ k. at ps (line m.lines k).to)
+        (λ k. at ps (line m.lines k).from + (line m.lines k).cost) (at o.flow)
+        ∙ ap (λ n. pos (arrived ps m.lines o.flow) -ℤ pos n) begins

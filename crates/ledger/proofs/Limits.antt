@@ -4,24 +4,26 @@ use borrow.Author.Differences.{ints}
 use Rattle.hour.proofs.First.{is_none}
 use Rattle.hour.proofs.Kept.{kept}
 use Rattle.hour.specs.Total.{total}
-use Rattle.hour.specs.Market.{Market, Outcome, Feasible, count_of}
+use Rattle.hour.specs.Market.{Market, Outcome, Feasible, costs, count_of}
 use Rattle.hour.specs.Rules.{KeepsRules, max_price, max_amount}
 use Rattle.hour.specs.declared.refusals.Sort.{Sort}
 use Rattle.hour.specs.declared.refusals.Sort.TheVariants as sorts
 use Rattle.hour.specs.declared.view.Hour.{Hour}
 use Rattle.network.proofs.Cap.{lowest_capped}
 use Rattle.network.proofs.Market.{within}
+use Rattle.network.proofs.Plain.{costs_plain}
 use Rattle.network.specs.Network.{Among, carried, capacity}
 use Rattle.network.specs.Prices.{Lowest, PricesTo}
-use Rattle.network.specs.declared.arcs.Item.{Item}
-use Rattle.network.specs.declared.arcs.Item.TheVariants.{Buy, Sell, Line}
+use Rattle.hour.specs.declared.items.Item.{Item}
+use Rattle.hour.specs.declared.items.Item.TheVariants.{Buy, Sell, Line}
 use Rattle.hour.specs.Seen.{market_seen}
 use Rattle.network.specs.Given.{item}
-use Rattle.ledger.specs.Money.{above, base, money, asked, sumℤ}
-use Rattle.ledger.specs.Money.{worth_of, Payable}
+use Rattle.prices.proofs.Bounds.{proper_kept}
+use Rattle.ledger.specs.Money.{above, base, money, asked, sumℤ, sum_of}
+use Rattle.ledger.specs.Money.{worth_of, LedgerOf, ReadAsMoney, Payable}
 use Rattle.ledger.specs.Promises.{SumsSmall, WorthSmall}
 use Rattle.ledger.specs.Written.{widest}
-use Rattle.ledger.proofs.Size.{size_add, size_between, size_owed, bits_back}
+use Rattle.ledger.proofs.Size.{size_add, size_between, size_owed, number_back, bits_back}
 
 pub rules_of : (h : Hour) → KeepsRules (market_seen h)
 rules_of h = kept h.bytes.now (is_none _ h.kept)
@@ -43,7 +45,7 @@ module _ (m : Market) (rules : KeepsRules m) where
   pub asked_small : (i : Item) → Among m i → asked m i ≤ max_price
   asked_small (Buy k) h = (rules.each_buy k h).price
   asked_small (Sell k) h = (rules.each_sell k h).price
-  asked_small (Line k) h = omega arith
+  asked_small (Line k) h = omega (arith, rules.plain.costless k h)
 
 prices_kept : (m : Market) → KeepsRules m → PricesTo m max_price
 prices_kept m rules =
@@ -56,7 +58,7 @@ prices_kept m rules =
 pub payable_lowest :
     (m : Market) (o : Outcome) (ps : List ℕ) → KeepsRules m → Feasible m o → Lowest m ps → Payable m o ps
 payable_lowest m o ps rules feasible low =
-    record { feasible = feasible; prices = lowest_capped m max_price ps low (prices_kept m rules) }
+    record { feasible = feasible; prices = lowest_capped m max_price ps (proper_kept m rules) low (prices_kept m rules) }
 
 module _ (m : Market) (o : Outcome) (ps : List ℕ) (rules : KeepsRules m) (pay : Payable m o ps) where
   pub above_small : (i : Item) → Among m i → above m ps i ≤ max_price
@@ -67,7 +69,7 @@ module _ (m : Market) (o : Outcome) (ps : List ℕ) (rules : KeepsRules m) (pay 
   pub base_small : (i : Item) → Among m i → base m ps i ≤ max_price
   base_small (Buy k) h = omega arith
   base_small (Sell k) h = omega arith
-  base_small (Line k) h = pay.prices _ (rules.each_line k h).from
+  base_small (Line k) h = omega (arith, pay.prices _ (rules.each_line k h).from, rules.plain.costless k h)
 
   -- a bid's zone's price is at most 350,000 from no money
   size_bid : (i : Item) → Among m i → base m ps i ≡ 50000 → nat_abs (money m o ps i) ≤ 350_000_000_000
@@ -165,7 +167,8 @@ sort_worth_small m o rules feasible s =
 pub worth_small : WorthSmall
 worth_small m o rules feasible =
     let gained = sort_worth_small m o rules feasible sorts.Buy in
-    let spent = sort_worth_small m o rules feasible sorts.Sell in
+    let sells = sort_worth_small m o rules feasible sorts.Sell in
+    let spent : costs m o ≤ 400_000_000_000_000 = omega (arith, costs_plain m rules.plain o) in
     record { gained = gained; spent = spent; whole = size_between _ _ 400_000_000_000_000 gained spent }
 
 pub sums_small : SumsSmall
@@ -173,4 +176,17 @@ sums_small m o ps rules pay =
     record {
       rows = size_item m o ps rules pay;
       sums = λ s. omega (arith, size_sum m o ps rules pay s (count_of m s) (omega arith), widest_all m rules s);
+    }
+
+-- money that is small is read from its bits again
+pub read_as_money :
+    (m : Market) (o : Outcome) (ps l : List ℕ) → KeepsRules m → Payable m o ps → LedgerOf m o ps l →
+    ReadAsMoney m o ps l
+read_as_money m o ps l rules pay booked =
+    let small = sums_small m o ps rules pay in
+    record {
+      rows = λ s k below.
+          ap (to_z w64) (booked.rows s k below)
+          ∙ number_back (money m o ps (item s k)) (omega (arith, small.rows (item s k) (among_item m s k below)));
+      sums = λ s. ap (to_z w64) (booked.sums s) ∙ number_back (sum_of m o ps s) (omega (arith, small.sums s));
     }

@@ -1,6 +1,6 @@
 -- The entry's answer is one, keeps the whole promise, and is no refusal of an hour that keeps the rules. Assumes nothing.
-use Rattle.std.proofs.Common.{◌≡◌, ℕ, ◌+◌, ◌-◌, ◌<◌, ◌≤◌, List, ◌++◌, length, take, drop, Some, None, Ok, Err, Option, sym, refl, ap, ◌∙◌, subst, ap₂, inl, inr, arith}
-use Rattle.std.proofs.lemmas.List.{take-append-drop, ext_get_or, get_or-drop}
+use Rattle.std.proofs.Common.{◌≡◌, ℕ, ◌+◌, ◌-◌, ◌<◌, ◌≤◌, List, length, drop, Some, None, Ok, Err, Option, Result, sym, refl, ap, ◌∙◌, subst, ap₂, inl, inr, arith}
+use Rattle.std.proofs.lemmas.List.{ext_get_or, get_or-drop}
 use Rattle.std.proofs.lemmas.Bool.{cases_lt}
 use Rattle.hour.proofs.Kept.{kept, buys_count, sells_count, lines_count}
 use Rattle.hour.proofs.ReadBack.{read_back}
@@ -9,12 +9,15 @@ use Rattle.hour.specs.Market.{Market, Outcome, Proper, at}
 use Rattle.hour.specs.Rules.{KeepsRules}
 use Rattle.hour.specs.declared.refusals.Refusal.{Refusal}
 use Rattle.prices.proofs.Bounds.{proper_kept}
+use Rattle.prices.proofs.OneAnswer.{Leaves, one_left}
 use Rattle.prices.proofs.Promised.{found_promised, one_found}
+use Rattle.prices.specs.Ended.{Lent, lent}
 use Rattle.prices.specs.Found.{result_in, prices_in}
 use Rattle.ledger.proofs.Even.{ledger_even}
 use Rattle.ledger.proofs.Faults.{taken_hour, slices_enough, refusal_enough}
+use Rattle.ledger.proofs.Limits.{payable_lowest, read_as_money, sums_small}
 use Rattle.ledger.proofs.OneLedger.{one_ledger}
-use Rattle.ledger.specs.Entry.{Slices}
+use Rattle.ledger.specs.Entry.{Slices, Answer}
 use Rattle.ledger.specs.Money.{row_count, LedgerOf}
 use Rattle.ledger.specs.Published.{PublishedAs}
 use Rattle.ledger.specs.Text.{result_of}
@@ -24,9 +27,9 @@ use Rattle.ledger.specs.Whole.{OneAnswer, WholePromise, AlwaysCleared, OneText}
 rules_answered : (bs : List ℕ) (lent : Option Refusal) → None ≡ refusal_with bs lent → KeepsRules (market_of bs)
 rules_answered bs lent none = kept bs (taken_hour bs lent (sym none))
 
-whole : (n : ℕ) (xs ys zs : List ℕ) → take n xs ≡ take n ys → drop n xs ≡ drop n zs → drop n ys ≡ drop n zs → xs ≡ ys
-whole n xs ys zs front back also =
-    sym (take-append-drop n xs) ∙ (ap₂ ◌++◌ front (back ∙ sym also) ∙ take-append-drop n ys)
+-- what five of the slices hold, all but the ledger
+abbrev lent_of : Slices → Lent
+lent_of s = lent s.bought s.sold s.flow s.price s.work
 
 past_at : (n k : ℕ) (xs zs : List ℕ) → n ≤ k → drop n xs ≡ drop n zs → at xs k ≡ at zs k
 past_at n k xs zs past back =
@@ -35,7 +38,7 @@ past_at n k xs zs past back =
     ∙ (sym (get_or-drop n xs (k - n) 0)
     ∙ (ap (λ (l : List ℕ). at l (k - n)) back ∙ (get_or-drop n zs (k - n) 0 ∙ ap (at zs) there)))
 
--- the same with fronts that agree number by number
+-- two slices with fronts that agree number by number, and the rest as it was
 agreed :
     (n : ℕ) (xs ys zs : List ℕ) → length xs ≡ length zs → length ys ≡ length zs → ((k : ℕ) → k < n → at xs k ≡ at ys k) →
     drop n xs ≡ drop n zs → drop n ys ≡ drop n zs → xs ≡ ys
@@ -47,50 +50,51 @@ agreed n xs ys zs long also_long same back also =
       | inr past ↦ past_at n k xs zs past back ∙ sym (past_at n k ys zs past also)
     ])
 
-same_slices :
-    (new other : Slices) → new.bought ≡ other.bought → new.sold ≡ other.sold → new.flow ≡ other.flow →
-    new.price ≡ other.price → new.ledger ≡ other.ledger → new.work ≡ other.work → new ≡ other
-same_slices new other bought sold flow price ledger work = λ i.
-    record { bought = bought i; sold = sold i; flow = flow i; price = price i; ledger = ledger i; work = work i }
+same_slices : (new other : Slices) → lent_of new ≡ lent_of other → new.ledger ≡ other.ledger → new ≡ other
+same_slices new other same ledger = λ i.
+    let l = same i in
+    record { bought = l.bought; sold = l.sold; flow = l.flow; price = l.price; ledger = ledger i; work = l.work }
 
--- Idea: what is found is one, so the fronts are the same; the rest of every slice is as it was.
-pub one_answer : OneAnswer
-one_answer bs old new other (Err x) (Err y) a b =
-    let same : x ≡ y = let e = a.refusal ∙ sym b.refusal in cc in
+leaves_of :
+    (bs : List ℕ) (old new : Slices) (r : Result ℕ Refusal) → Answer bs old r new →
+    Leaves (market_of bs) (lent_of old) r (lent_of new)
+leaves_of bs old new r a =
     record {
-      answer = ap Err same;
-      slices =
-          same_slices new other (a.bought ∙ sym b.bought) (a.sold ∙ sym b.sold) (a.flow ∙ sym b.flow)
-          (a.price ∙ sym b.price) (a.ledger ∙ sym b.ledger) (a.work ∙ sym b.work);
+      found = a.found;
+      bought = a.bought;
+      sold = a.sold;
+      flow = a.flow;
+      price = a.price;
+      work = a.work;
     }
-one_answer bs old new other (Err x) (Ok n) a b =
-    let e = a.refusal ∙ sym b.refusal in
-    let z : ◌≡◌ {A = ℕ} 0 1 = cc in
-    absurd (omega arith)
-one_answer bs old new other (Ok n) (Err y) a b =
-    let e = a.refusal ∙ sym b.refusal in
-    let z : ◌≡◌ {A = ℕ} 0 1 = cc in
-    absurd (omega arith)
-one_answer bs old new other (Ok n) (Ok j) a b =
+
+-- answers that leave the same outcome and the same prices leave the same ledger
+one_booked :
+    (bs : List ℕ) (old new other : Slices) (r : Result ℕ Refusal) → lent_of new ≡ lent_of other → Answer bs old r new →
+    Answer bs old r other → new.ledger ≡ other.ledger
+one_booked bs old new other (Err x) same a b = a.ledger ∙ sym b.ledger
+one_booked bs old new other (Ok n) same a b =
     let m = market_of bs in
-    let proper = proper_kept m (rules_answered bs _ a.refusal) in
-    let same = one_found m n j _ _ _ _ proper a.found b.found in
     let booked =
-    subst (λ (o : Outcome). LedgerOf m o (prices_in m other.price) new.ledger) same.outcome
-    (subst (λ (ps : List ℕ). LedgerOf m (result_in m new.bought new.sold new.flow) ps new.ledger) same.prices
-    a.booked)
+    subst
+    (λ (l : Lent). LedgerOf m (result_in m l.bought l.sold l.flow) (prices_in m l.price) new.ledger)
+    same a.booked
     in
-    let rows = (one_ledger m _ _ new.ledger other.ledger booked b.booked).rows in
+    agreed (row_count m + 3) _ _ _ a.ledger_long b.ledger_long
+    (one_ledger m _ _ new.ledger other.ledger booked b.booked).rows a.ledger b.ledger
+
+-- Idea: what is found is one, and so is what is left of it in the lent slices; so what is booked is one, too.
+pub one_answer : OneAnswer
+one_answer bs old new other r s a b =
+    let same =
+    one_left (market_of bs) (lent_of old) (lent_of new) (lent_of other) r s (a.refusal ∙ sym b.refusal)
+    (λ none. proper_kept (market_of bs) (rules_answered bs _ (sym none ∙ a.refusal)))
+    (leaves_of bs old new r a) (leaves_of bs old other s b)
+    in
+    let also = subst (λ (t : Result ℕ Refusal). Answer bs old t other) (sym same.answer) b in
     record {
-      answer = ap Ok same.count;
-      slices =
-          same_slices new other
-          (whole (length m.buys) _ _ _ (ap (λ (o : Outcome). o.bought) same.outcome) a.bought b.bought)
-          (whole (length m.sells) _ _ _ (ap (λ (o : Outcome). o.sold) same.outcome) a.sold b.sold)
-          (whole (length m.lines) _ _ _ (ap (λ (o : Outcome). o.flow) same.outcome) a.flow b.flow)
-          (whole m.zones _ _ _ same.prices a.price b.price)
-          (agreed (row_count m + 3) _ _ _ a.ledger_long b.ledger_long rows a.ledger b.ledger)
-          (a.work ∙ sym b.work);
+      answer = same.answer;
+      slices = same_slices new other same.slices (one_booked bs old new other r same.slices a also);
     }
 
 pub whole_promise : WholePromise
@@ -102,13 +106,17 @@ whole_promise bs old new (Err x) a =
       no_regret = tt;
       best = tt;
       rows = tt;
+      small = tt;
+      read = tt;
       even = tt;
       pushes = tt;
     }
 whole_promise bs old new (Ok n) a =
     let m = market_of bs in
-    let proper = proper_kept m (rules_answered bs _ a.refusal) in
-    let promised = found_promised m n _ _ proper a.found in
+    let rules = rules_answered bs _ a.refusal in
+    let proper = proper_kept m rules in
+    let promised = found_promised m n _ _ proper rules.plain a.found in
+    let payable = payable_lowest m _ _ rules promised.feasible promised.lowest in
     record {
       carried_out = promised.feasible;
       settled = promised.settled;
@@ -116,7 +124,9 @@ whole_promise bs old new (Ok n) a =
       no_regret = promised.no_regret;
       best = promised.best;
       rows = a.booked;
-      even = ledger_even m _ _ proper promised.feasible promised.settled;
+      small = sums_small m _ _ rules payable;
+      read = read_as_money m _ _ _ rules payable a.booked;
+      even = ledger_even m _ _ proper rules.plain promised.feasible promised.settled;
       pushes = (promised.pushes, promised.few);
     }
 

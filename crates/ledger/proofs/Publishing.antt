@@ -94,14 +94,14 @@ module _
 
     pub cleared_whole : (text : List ℕ) → text ≡ result_of m (outcome_in b s f) p n → ClearedText m text
     cleared_whole text is =
-        let promised = found_promised m n _ _ (proper_kept m rules) found_whole in
+        let promised = found_promised m n _ _ (proper_kept m rules) rules.plain found_whole in
         record {
           pushes = n;
           outcome = outcome_in b s f;
           prices = p;
           found = found_whole;
           promised = promised;
-          even = ledger_even m _ _ (proper_kept m rules) promised.feasible promised.settled;
+          even = ledger_even m _ _ (proper_kept m rules) rules.plain promised.feasible promised.settled;
           text_is = is;
         }
 

@@ -10,12 +10,12 @@ use Rattle.hour.specs.declared.refusals.Sort.TheVariants as sorts
 use Rattle.network.specs.Network.{carried}
 use Rattle.hour.specs.Seen.{market_seen}
 use Rattle.network.specs.Given.{outcome_given, item}
-use Rattle.ledger.specs.Money.{money, first_row, worth_by, LedgerOf, Payable}
+use Rattle.ledger.specs.Money.{first_row, worth_by, LedgerOf, Payable}
 use Rattle.ledger.specs.Cleared.{LedgerIn}
 use Rattle.ledger.specs.declared.cleared.Cleared.{Cleared}
 use Rattle.ledger.specs.Promises.{TextSays}
 use Rattle.ledger.specs.Text.{Wording, wording, item_row, item_rows, sort_rows, worth_row, zone_row, zone_rows}
-use Rattle.ledger.proofs.Limits.{rules_of, among_item, size_item, worth_small}
+use Rattle.ledger.proofs.Limits.{rules_of, read_as_money, worth_small}
 use Rattle.ledger.proofs.Size.{number_back, read_back}
 
 -- one more row of a sort
@@ -36,18 +36,13 @@ rows_same (suc n) f g same = ap₂ ◌++◌ (rows_same n f g (λ k h. same k (om
 module _
     (m : Market) (o : Outcome) (ps l : List ℕ) (rules : KeepsRules m) (pay : Payable m o ps) (kept : LedgerOf m o ps l)
   where
-    money_read : (s : Sort) (k : ℕ) → k < count_of m s → to_z w64 (at l (first_row m s + k)) ≡ money m o ps (item s k)
-    money_read s k h =
-        ap (to_z w64) (kept.rows s k h)
-        ∙ number_back (money m o ps (item s k))
-        (omega (arith, size_item m o ps rules pay (item s k) (among_item m s k h)))
-
     rows_say :
         (s : Sort) →
         rows (count_of m s) (λ k. item_row (wording s) k (carried o (item s k)) (to_z w64 (at l (first_row m s + k))))
         ≡ sort_rows m o ps s
     rows_say s =
-        rows_same (count_of m s) _ _ (λ k h. ap (item_row (wording s) k (carried o (item s k))) (money_read s k h))
+        rows_same (count_of m s) _ _
+        (λ k h. ap (item_row (wording s) k (carried o (item s k))) ((read_as_money m o ps l rules pay kept).rows s k h))
 
 pub text_says : TextSays
 text_says m o ps l pushes rules pay kept =
@@ -82,7 +77,7 @@ module _ (c : Cleared) (l : List ℕ) (kept : LedgerIn c l) where
       (λ k h.
       ap₂ (item_row (wording s) k) (amounts k h)
       (ap (λ (j : ℕ). to_z w64 (at ys j)) (zero-add k) ∙ ap (to_z w64) (rows k h)
-      ∙ money_read (market_seen c.hour) (outcome_given c.amounts) c.prices.now l (rules_of c.hour) c.payable kept s k h)))
+      ∙ (read_as_money (market_seen c.hour) (outcome_given c.amounts) c.prices.now l (rules_of c.hour) c.payable kept).rows s k h)))
 
   pub worth_says :
       (z : ℤ) (n : ℕ) → z ≡ worth_by (market_seen c.hour) (outcome_given c.amounts) →

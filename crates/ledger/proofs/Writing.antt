@@ -5,7 +5,7 @@ use Rattle.std.proofs.lemmas.Bool.{cases_lt}
 use Rattle.hour.specs.Market.{Market, at, count_of}
 use Rattle.hour.specs.declared.refusals.Sort.{Sort}
 use Rattle.hour.specs.declared.refusals.Sort.TheVariants as sorts
-use Rattle.network.specs.declared.arcs.Item.{Item}
+use Rattle.hour.specs.declared.items.Item.{Item}
 use Rattle.ledger.proofs.Booked.{behind_kept}
 use Rattle.ledger.proofs.Limits.{rules_of, running_small, size_row, sum_bits, widest_fits}
 use Rattle.ledger.proofs.Size.{bits_back, number_back, size_add, sum_back}

@@ -5,7 +5,7 @@
 --   Room c l          a price for each zone, an amount for each bid and line, and a row of l
 --   text_in c n       the text of it, after n pushes
 use Rattle.std.specs.Prelude.{ℕ, ◌≤◌, List, length, ℤ}
-use Rattle.network.specs.declared.arcs.Item.{Item}
+use Rattle.hour.specs.declared.items.Item.{Item}
 use Rattle.hour.specs.Seen.{market_seen}
 use Rattle.network.specs.Given.{outcome_given}
 use Rattle.ledger.specs.Money.{money, row_count, LedgerOf}

@@ -11,6 +11,8 @@
 --   Counted r m ..          the count is that of the definition's pushes, each of which paid; there are no more than the value
 --                           can rise
 --   Booked r m ..           each row of the ledger, and each of its three sums
+--   SmallMoney r m ..       no row of it is above 400,000,000,000 in size, and every sum is below 400,000,000,000,000
+--   MoneyRead r m ..        what is stored in it, read as signed numbers of 64 bits, is the money of each item and the three sums
 --   Closed r m ..           what is collected is what is paid and what lines earn; no line earns less than nothing
 --   Slices                  what the six slices hold; slices b s f p l w the six put together
 --   ClearedIn m n old new   what clearing m with n pushes leaves in them
@@ -33,8 +35,8 @@ use Rattle.circulation.specs.Promises.{StepsSound, top}
 use Rattle.prices.specs.Ended.{FoundIn, Left, Wiped, lengths}
 use Rattle.prices.specs.Found.{Found, result_in, prices_in, BestOf}
 use Rattle.prices.specs.Laid.{nothing}
-use Rattle.ledger.specs.Money.{row_count, LedgerOf}
-use Rattle.ledger.specs.Promises.{Evens}
+use Rattle.ledger.specs.Money.{row_count, LedgerOf, ReadAsMoney}
+use Rattle.ledger.specs.Promises.{Evens, Small}
 
 abbrev pub head_size : Head → ℕ
 head_size h = h.buys + h.sells + h.lines
@@ -72,6 +74,14 @@ Counted r m bought sold flow =
 abbrev pub Booked : Result ℕ Refusal → Market → List ℕ → List ℕ → List ℕ → List ℕ → List ℕ → Type 0
 Booked r m bought sold flow price ledger =
     IfOk r (λ n. LedgerOf m (result_in m bought sold flow) (prices_in m price) ledger)
+
+abbrev pub SmallMoney : Result ℕ Refusal → Market → List ℕ → List ℕ → List ℕ → List ℕ → Type 0
+SmallMoney r m bought sold flow price =
+    IfOk r (λ n. Small m (result_in m bought sold flow) (prices_in m price))
+
+abbrev pub MoneyRead : Result ℕ Refusal → Market → List ℕ → List ℕ → List ℕ → List ℕ → List ℕ → Type 0
+MoneyRead r m bought sold flow price ledger =
+    IfOk r (λ n. ReadAsMoney m (result_in m bought sold flow) (prices_in m price) ledger)
 
 abbrev pub Closed : Result ℕ Refusal → Market → List ℕ → List ℕ → List ℕ → List ℕ → Type 0
 Closed r m bought sold flow price =

@@ -1,22 +1,24 @@
 -- What the ledger promises, each a statement whose proof a contract of this crate asks for. Assumes nothing.
 --
 --   Evens m o ps   the sums of the ledger close, and no line earns less than nothing
---   LedgerEven     what the buyers pay is what the sellers get and what the lines earn, and no line earns less than nothing
+--   LedgerEven     in a plain market, what the buyers pay is what the sellers get and what the lines earn, and no line earns less
+--                  than nothing
 --   Small m o ps   how large rows and sums are
 --   SumsSmall      no row is above 400,000,000,000 in size, and every sum is below 400,000,000,000,000
 --   WorthsSmall    how large the worth of an outcome is
---   WorthSmall     what is bought, what is sold and the outcome is each worth at most 400,000,000,000,000 in size
+--   WorthSmall     what is bought, what is sold with what flows cost, and the outcome are each worth at most
+--                  400,000,000,000,000 in size
 --   SameLedger     two lists agree in every row of a ledger, and are one if they have no more
 --   OneLedger      two ledgers of one outcome at the same prices agree in every row, and are one list if they have no more
 --   TextSays       the text of a ledger is the text of the outcome, with every money by its definition
 use Rattle.std.specs.Prelude.{◌≡◌, ℕ, ◌+◌, ◌<◌, ◌≤◌, List, length, pos, ◌+ℤ◌, ◌≤ℤ◌, unsigned_abs}
-use Rattle.hour.specs.Market.{Market, Outcome, Proper, Feasible, Settled, at, worth}
+use Rattle.hour.specs.Market.{Market, Outcome, Proper, Plain, Feasible, Settled, at, worth, costs}
 use Rattle.hour.specs.Rules.{KeepsRules}
 use Rattle.hour.specs.declared.refusals.Sort.{Sort}
 use Rattle.hour.specs.declared.refusals.Sort.TheVariants as sorts
 use Rattle.network.specs.Network.{Among}
-use Rattle.network.specs.declared.arcs.Item.{Item}
-use Rattle.network.specs.declared.arcs.Item.TheVariants.{Line}
+use Rattle.hour.specs.declared.items.Item.{Item}
+use Rattle.hour.specs.declared.items.Item.TheVariants.{Line}
 use Rattle.ledger.specs.Money.{money, sum_of, row_count, worth_by, LedgerOf, Payable}
 use Rattle.ledger.specs.Text.{counts_of, text_of, result_of}
 
@@ -25,7 +27,8 @@ pub record Evens (m : Market) (o : Outcome) (ps : List ℕ) : Type 0 where
   pub lines : (k : ℕ) → k < length m.lines → pos 0 ≤ℤ money m o ps (Line k)
 
 abbrev pub LedgerEven : Type 0
-LedgerEven = (m : Market) (o : Outcome) (ps : List ℕ) → Proper m → Feasible m o → Settled m o ps → Evens m o ps
+LedgerEven =
+    (m : Market) (o : Outcome) (ps : List ℕ) → Proper m → Plain m → Feasible m o → Settled m o ps → Evens m o ps
 
 pub record Small (m : Market) (o : Outcome) (ps : List ℕ) : Type 0 where
   pub rows : (i : Item) → Among m i → unsigned_abs (money m o ps i) ≤ 400_000_000_000
@@ -36,7 +39,7 @@ SumsSmall = (m : Market) (o : Outcome) (ps : List ℕ) → KeepsRules m → Paya
 
 pub record WorthsSmall (m : Market) (o : Outcome) : Type 0 where
   pub gained : worth m.buys o.bought ≤ 400_000_000_000_000
-  pub spent : worth m.sells o.sold ≤ 400_000_000_000_000
+  pub spent : costs m o ≤ 400_000_000_000_000
   pub whole : unsigned_abs (worth_by m o) ≤ 400_000_000_000_000
 
 abbrev pub WorthSmall : Type 0

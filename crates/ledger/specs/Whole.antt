@@ -15,7 +15,7 @@ use Rattle.hour.specs.Rules.{KeepsRules}
 use Rattle.hour.specs.declared.rules.Lengths.{Lengths}
 use Rattle.hour.specs.declared.refusals.Refusal.{Refusal}
 use Rattle.ledger.specs.Entry.{Slices, Answer, hour_fault, CarriedOut, SettledBy, LowestPrices, BestWorth}
-use Rattle.ledger.specs.Entry.{NobodyRegrets, Counted, Booked, Closed}
+use Rattle.ledger.specs.Entry.{NobodyRegrets, Counted, Booked, SmallMoney, MoneyRead, Closed}
 use Rattle.ledger.specs.Money.{row_count}
 use Rattle.ledger.specs.Published.{Published}
 
@@ -35,6 +35,8 @@ pub record Promise (r : Result ℕ Refusal) (m : Market) (new : Slices) : Type 0
   pub no_regret : NobodyRegrets r m new.bought new.sold new.flow new.price
   pub best : BestWorth r m new.bought new.sold new.flow
   pub rows : Booked r m new.bought new.sold new.flow new.price new.ledger
+  pub small : SmallMoney r m new.bought new.sold new.flow new.price
+  pub read : MoneyRead r m new.bought new.sold new.flow new.price new.ledger
   pub even : Closed r m new.bought new.sold new.flow new.price
   pub pushes : Counted r m new.bought new.sold new.flow
 

@@ -5,7 +5,7 @@ ghost use Rattle.hour.specs.Bytes.{market_of};
 ghost use Rattle.prices.specs.Ended.{FoundIn, Left, Wiped, lengths};
 ghost use Rattle.prices.specs.Found.{Roomy};
 ghost use Rattle.ledger.specs.Entry.{head_size, slices_fault, hour_fault, CarriedOut, SettledBy, LowestPrices, NobodyRegrets};
-ghost use Rattle.ledger.specs.Entry.{BestWorth, Booked, Closed, Counted, ClearedIn, slices};
+ghost use Rattle.ledger.specs.Entry.{BestWorth, Booked, SmallMoney, MoneyRead, Closed, Counted, ClearedIn, slices};
 ghost use Rattle.hour.specs.Seen.{market_seen};
 ghost use Rattle.ledger.specs.Money.{row_count};
 
@@ -70,7 +70,8 @@ fn clear_and_book(
 // - `refusal`: what is refused has the rule and the place of the list; an hour that keeps the rules, with enough lent, is not refused;
 // - `carried_out`, `settled`, `lowest`: amounts and flows keep all limits and balances, the prices settle them and are the lowest;
 // - `no_regret`, `best`: nobody would rather have another amount, and nothing that can be carried out is worth more;
-// - `rows`, `even`: each number of the ledger; what is collected is what is paid and what lines earn, and no line earns less than nothing;
+// - `rows`, `small`, `read`: each number of the ledger; none is large, and read as a signed number of 64 bits it is the money itself;
+// - `even`: what is collected is what is paid and what lines earn, and no line earns less than nothing;
 // - `found`, `pushes`: amounts, flows, prices and the count are those of the definition, and each push paid;
 // - `bought` to `work`: every other number of lent memory, and all of it where the hour is refused.
 pub fn clear(
@@ -89,6 +90,8 @@ pub fn clear(
     ensures no_regret { NobodyRegrets result (market_of bytes.now) bought.new sold.new flow.new price.new }
     ensures best { BestWorth result (market_of bytes.now) bought.new sold.new flow.new }
     ensures rows { Booked result (market_of bytes.now) bought.new sold.new flow.new price.new ledger.new }
+    ensures small { SmallMoney result (market_of bytes.now) bought.new sold.new flow.new price.new }
+    ensures read { MoneyRead result (market_of bytes.now) bought.new sold.new flow.new price.new ledger.new }
     ensures even { Closed result (market_of bytes.now) bought.new sold.new flow.new price.new }
     ensures found { FoundIn result (market_of bytes.now) bought.new sold.new flow.new price.new }
     ensures pushes { Counted result (market_of bytes.now) bought.new sold.new flow.new }

@@ -7,8 +7,7 @@ ghost use Rattle.ledger.specs.Money.{above, base, owed, asked};
 ghost use Rattle.ledger.specs.Cleared.{money_in};
 
 use crate::cleared::Cleared;
-use hour::{Hour, ZERO_PRICE};
-use network::{Item, number_at};
+use hour::{Hour, Item, ZERO_PRICE};
 
 // So many units at one price less another.
 #[tactic(auto, using(crate::proofs::Product::product_fits, crate::proofs::Product::product_back))]
@@ -19,31 +18,31 @@ fn owed(above: u64, base: u64, amount: u64) -> i64
     (above as i64 - base as i64) * amount as i64
 }
 
-// The zone's price for a bid, and for a line the price where it ends. Here and below an item has to be one of the hour's: that is
-// a bound on its number, as a slice asks of an index.
+/// The zone's price for a bid, and for a line what a unit brings it. Here and below an item has to be one of the hour's: that is a bound
+/// on its number, as a slice asks of an index.
 pub fn price_above(hour: Hour<'_>, prices: &[u64], item: Item) -> u64
     requires { Among (market_seen hour) item }
     ensures { result ≡ above (market_seen hour.entry) prices.now item }
 {
+    let terms = hour.terms(prices, item);
     match item {
-        Item::Buy(k) => number_at(prices, hour.buy(k).zone as usize),
-        Item::Sell(k) => number_at(prices, hour.sell(k).zone as usize),
-        Item::Line(k) => number_at(prices, hour.line(k).to as usize),
+        Item::Buy(_) => terms.cost,
+        Item::Sell(_) | Item::Line(_) => terms.value,
     }
 }
 
-// No money for a bid, and for a line the price where it begins.
+/// No money for a bid, and for a line what a unit costs it.
 pub fn price_below(hour: Hour<'_>, prices: &[u64], item: Item) -> u64
     requires { Among (market_seen hour) item }
     ensures { result ≡ base (market_seen hour.entry) prices.now item }
 {
     match item {
         Item::Buy(_) | Item::Sell(_) => ZERO_PRICE,
-        Item::Line(k) => number_at(prices, hour.line(k).from as usize),
+        Item::Line(_) => hour.terms(prices, item).cost,
     }
 }
 
-// The price that a bid has itself; a line has none.
+/// The price that a bid has itself; the cost of a line.
 pub fn price_asked(hour: Hour<'_>, item: Item) -> u64
     requires { Among (market_seen hour) item }
     ensures { result ≡ asked (market_seen hour.entry) item }
@@ -51,7 +50,7 @@ pub fn price_asked(hour: Hour<'_>, item: Item) -> u64
     match item {
         Item::Buy(k) => hour.buy(k).price,
         Item::Sell(k) => hour.sell(k).price,
-        Item::Line(_) => 0,
+        Item::Line(k) => hour.line(k).cost,
     }
 }
 

@@ -1,4 +1,4 @@
-// What an outcome is worth by the bids' own prices.
+// What an outcome is worth by the bids' own prices and the lines' own costs.
 ghost use Rattle.std.specs.Prelude.{◌≡◌, ◌*◌, ◌<◌, ◌≤◌};
 ghost use Rattle.hour.specs.Market.{Feasible, count_of};
 ghost use Rattle.network.specs.Network.{carried};
@@ -19,7 +19,7 @@ struct Carried<'h, 'o> {
 }
 
 impl Carried<'_, '_> {
-    // The k-th item of a sort at its own price.
+    // The k-th item of a sort at its own price or cost.
     #[tactic(auto, using(crate::proofs::Limits::worth_fits, crate::proofs::Limits::rules_of))]
     fn item_worth(self, sort: Sort, k: usize) -> u64
         requires { k < count_of (market_seen self.hour) sort }
@@ -30,7 +30,7 @@ impl Carried<'_, '_> {
         price_asked(self.hour, item) * self.amounts.of(item)
     }
 
-    // The items of one sort at their own prices.
+    // The items of one sort at their own prices or costs.
     fn worth_of(self, sort: Sort) -> u64
         ensures value { result ≡ worth_of (market_seen self.entry.hour) (outcome_given self.entry.amounts) sort }
         ensures small { result ≤ 400000000000000 }
@@ -41,11 +41,12 @@ impl Carried<'_, '_> {
     }
 }
 
-// What is bought is worth, less what is sold. Its callers hold the fact that it asks for, each in a type of its own.
+// What is bought is worth, less what is sold and what flows cost. Its callers hold the fact that it asks for, each in a type of its own.
 pub fn worth_in(hour: Hour<'_>, o: Amounts<'_>) -> i64
     requires { Feasible (market_seen hour) (outcome_given o) }
     ensures { result ≡ worth_by (market_seen hour.entry) (outcome_given o.entry) }
 {
     let carried = Carried { hour, amounts: o };
-    carried.worth_of(Sort::Buy) as i64 - carried.worth_of(Sort::Sell) as i64
+    let costs = carried.worth_of(Sort::Sell) + carried.worth_of(Sort::Line);
+    carried.worth_of(Sort::Buy) as i64 - costs as i64
 }

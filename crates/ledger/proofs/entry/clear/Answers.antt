@@ -2,7 +2,7 @@ use Rattle.std.proofs.Common.{sym, ap, ◌∙◌}
 use Rattle.std.specs.Result.{result_err}
 use Rattle.hour.proofs.Kept.{kept}
 use Rattle.hour.specs.Bytes.{market_of}
-use Rattle.ledger.proofs.Booked.{promised_in, closed_in, same_market}
+use Rattle.ledger.proofs.Booked.{promised_in, small_in, read_in, closed_in, same_market}
 use Rattle.ledger.proofs.Faults.{taken_hour}
 use Rattle.ledger.proofs.entry.clear.Goals as goal
 
@@ -21,6 +21,8 @@ returns c =
       no_regret = promised.no_regret;
       best = promised.best;
       rows = done.booked;
+      small = small_in (market_of bytes) rules _ _ _ done;
+      read = read_in (market_of bytes) rules _ _ _ done;
       even = closed_in (market_of bytes) rules _ _ _ done;
       found = done.found;
       pushes = (promised.pushes, promised.few);
