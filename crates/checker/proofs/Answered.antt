@@ -1,8 +1,9 @@
 -- What the answer about prices says, and that it is the only one. Assumes nothing.
 use Rattle.std.proofs.Common.{◌≡◌, ℕ, ◌<◌, ◌≤◌, Bool, eqb, List, length, Some, None, Ok, Option, Result, sym, refl, ap, ◌∙◌, subst, ap₂, inl, inr, arith}
 use Rattle.std.proofs.lemmas.Bool.{eqb-true, eqb-false, eq-eqb, ne_eqb}
+use Rattle.hour.proofs.Kept.{plain_said}
 use Rattle.hour.specs.Bytes.{market_of}
-use Rattle.hour.specs.Market.{Market, Outcome, Proper, Feasible, Settled, at}
+use Rattle.hour.specs.Market.{Market, Outcome, Proper, Plain, Feasible, Settled, at}
 use Rattle.hour.specs.declared.refusals.Refusal.{Refusal}
 use Rattle.network.specs.Prices as prices
 use Rattle.checker.specs.declared.verdict.Broken.{Broken}
@@ -21,13 +22,13 @@ use Rattle.checker.proofs.Rules.{proper_hour}
 
 -- marks, and what they say of the prices of a result that stands
 module _
-    (m : Market) (o : Outcome) (ps old new : List ℕ) (proper : Proper m) (f : Feasible m o) (s : Settled m o ps)
-    (marks : Marks m o ps old new)
+    (m : Market) (o : Outcome) (ps old new : List ℕ) (proper : Proper m) (plain : Plain m) (f : Feasible m o)
+    (s : Settled m o ps) (marks : Marks m o ps old new)
   where
     marked_nowhere : (z : ℕ) → z < m.zones → (at new z ≡ 0 → ⊥) → NowhereLower m ps z
     marked_nowhere z h marked =
         elim (marks.zones z h) [
-          | inl held ↦ held_nowhere_lower m o ps proper f s z held.1
+          | inl held ↦ held_nowhere_lower m o ps proper plain f s z held.1
           | inr free ↦ absurd (marked free.0)
         ]
 
@@ -36,7 +37,7 @@ module _
         let bare = found (λ w. eqb (at new w) 0) m.zones z is in
         record {
           among = bare.below;
-          could = unmarked_lower m o ps old new proper f s marks z bare.below (eqb-true _ _ bare.passes);
+          could = unmarked_lower m o ps old new proper plain f s marks z bare.below (eqb-true _ _ bare.passes);
           before = λ w h.
               marked_nowhere w (omega (arith, bare.below)) (eqb-false _ _ (bare.before w h));
         }
@@ -54,7 +55,7 @@ module _
     -- and the other way round
     marked_since : (z : ℕ) → z < m.zones → ((qs : List ℕ) → Settled m o qs → at ps z ≤ at qs z) → at new z ≡ 0 → ⊥
     marked_since z h nowhere bare =
-        let list = unmarked_lower m o ps old new proper f s marks z h bare in
+        let list = unmarked_lower m o ps old new proper plain f s marks z h bare in
         let le = nowhere list.prices list.settled in
         let less = list.lower in
         omega arith
@@ -63,7 +64,7 @@ module _
     bare_since z h list =
         elim (marks.zones z h) [
           | inl held ↦
-              let le = held_le m o ps list.prices list.settled held.1 in
+              let le = held_le m plain o ps list.prices list.settled held.1 in
               let less = list.lower in
               absurd (omega arith)
           | inr free ↦ free.0
@@ -119,7 +120,7 @@ module _
             let parts = unobjected (unmarked (market_of bs) new) (Some z) _ _ (sym is ∙ e) in
             let a = answerable_from bs o ps (length old) parts.0 parts.1 in (
               a,
-              first_lower (market_of bs) o ps old new (answerable_proper bs o ps (length old) a) a.feasible a.settled
+              first_lower (market_of bs) o ps old new (answerable_proper bs o ps (length old) a) (plain_said bs) a.feasible a.settled
                   (left.marked a) z parts.2,
             )
 
@@ -129,7 +130,7 @@ module _
             is
             ∙ (answerable_ranked bs o ps (length old) _ a
             ∙ ap Ok
-            (unmarked_first (market_of bs) o ps old new (answerable_proper bs o ps (length old) a) a.feasible a.settled
+            (unmarked_first (market_of bs) o ps old new (answerable_proper bs o ps (length old) a) (plain_said bs) a.feasible a.settled
             (left.marked a) z known.1))
 
     pub lowest_exactly :
@@ -141,7 +142,7 @@ module _
             let parts = unobjected (unmarked (market_of bs) new) None _ _ (sym is ∙ e) in
             let a = answerable_from bs o ps (length old) parts.0 parts.1 in (
               a,
-              lowest (market_of bs) o ps old new (answerable_proper bs o ps (length old) a) a.feasible a.settled
+              lowest (market_of bs) o ps old new (answerable_proper bs o ps (length old) a) (plain_said bs) a.feasible a.settled
                   (left.marked a) parts.2,
             )
 
@@ -151,7 +152,7 @@ module _
             is
             ∙ (answerable_ranked bs o ps (length old) _ a
             ∙ ap Ok
-            (unmarked_none (market_of bs) o ps old new (answerable_proper bs o ps (length old) a) a.feasible a.settled
+            (unmarked_none (market_of bs) o ps old new (answerable_proper bs o ps (length old) a) (plain_said bs) a.feasible a.settled
             (left.marked a) known.1))
 
 -- of an hour that is not refused, and is seen in its bytes

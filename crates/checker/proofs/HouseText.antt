@@ -8,14 +8,15 @@ use Rattle.hour.proofs.Kept.{kept}
 use Rattle.hour.proofs.Total.{total_same}
 use Rattle.hour.specs.Bytes.{market_of}
 use Rattle.hour.specs.Listed.{listed}
-use Rattle.hour.specs.Market.{Market, Outcome, Proper, Feasible, Settled, at, bid, worth, count_of}
+use Rattle.hour.specs.Market.{Market, Outcome, Proper, Feasible, Settled, at, bid, line, worth, flow_cost, count_of}
 use Rattle.hour.specs.declared.items.Bid.{Bid}
+use Rattle.hour.specs.declared.items.Line as items
 use Rattle.hour.specs.declared.refusals.Refusal.{Refusal}
 use Rattle.hour.specs.declared.refusals.Sort.{Sort}
 use Rattle.hour.specs.declared.refusals.Sort.TheVariants as sorts
 use Rattle.network.proofs.Agree.{Agree, AgreePrices, feasible_agree, settled_agree, lowest_agree}
 use Rattle.network.specs.Prices.{Lowest}
-use Rattle.network.specs.declared.arcs.Item.TheVariants.{Buy, Sell, Line}
+use Rattle.hour.specs.declared.items.Item.TheVariants.{Buy, Sell, Line}
 use Rattle.circulation.proofs.Few.{top_small}
 use Rattle.prices.proofs.Bounds.{proper_kept}
 use Rattle.ledger.proofs.Booked.{money_agree}
@@ -45,6 +46,10 @@ worth_agree :
     (bs : List Bid) (xs ys : List ℕ) → ((k : ℕ) → k < length bs → at xs k ≡ at ys k) → worth bs xs ≡ worth bs ys
 worth_agree bs xs ys same = total_same (length bs) _ _ (λ k below. ap (λ (x : ℕ). (bid bs k).price * x) (same k below))
 
+cost_agree :
+    (ls : List items.Line) (xs ys : List ℕ) → ((k : ℕ) → k < length ls → at xs k ≡ at ys k) → flow_cost ls xs ≡ flow_cost ls ys
+cost_agree ls xs ys same = total_same (length ls) _ _ (λ k below. ap (λ (x : ℕ). (line ls k).cost * x) (same k below))
+
 -- what a text says of an outcome and its prices
 module _ (m : Market) (proper : Proper m) (o : Outcome) (ps : List ℕ) (n : ℕ) (t : Saying) (says : Says m o ps n t) where
   said_agree : Agree m o (outcome_said t)
@@ -70,7 +75,8 @@ module _ (m : Market) (proper : Proper m) (o : Outcome) (ps : List ℕ) (n : ℕ
   worth_follows =
       ap₂ (λ (a b : ℕ). pos a -ℤ pos b)
       (worth_agree m.buys _ _ (λ k below. sym (said_agree (Buy k) below)))
-      (worth_agree m.sells _ _ (λ k below. sym (said_agree (Sell k) below)))
+      (ap₂ ◌+◌ (worth_agree m.sells _ _ (λ k below. sym (said_agree (Sell k) below)))
+      (cost_agree m.lines _ _ (λ k below. sym (said_agree (Line k) below))))
       ∙ sym says.worth
 
   none_wrong :

@@ -1,8 +1,9 @@
 -- What is said of a text, and that it is the only thing said. Assumes nothing.
-use Rattle.std.proofs.Common.{◌≡◌, ℕ, ◌<◌, List, Some, None, Ok, Err, Option, Result, sym, refl, ap, ◌∙◌, inl, inr, arith}
+use Rattle.std.proofs.Common.{◌≡◌, ℕ, ◌<◌, false, List, is_some, Some, None, Ok, Err, Option, Result, sym, refl, ap, ◌∙◌, inl, inr, arith}
 use Rattle.std.proofs.lemmas.Bool.{cases_lt}
+use Rattle.hour.proofs.Kept.{plain_said}
 use Rattle.hour.specs.Bytes.{market_of, refusal_of}
-use Rattle.hour.specs.Market.{Market, Outcome, Proper, Feasible}
+use Rattle.hour.specs.Market.{Market, Outcome, Proper, Plain, Feasible}
 use Rattle.hour.specs.declared.refusals.Refusal.{Refusal}
 use Rattle.network.specs.Prices.{Lowest}
 use Rattle.checker.specs.declared.reports.Report.{Report}
@@ -18,21 +19,28 @@ use Rattle.checker.specs.Promises.{OneReport}
 use Rattle.checker.specs.Telling.{LowerSaid, AcceptedWith, JudgedAs, ReadAs, ReportedAs}
 use Rattle.checker.proofs.Answered.{first_lower, lowest}
 use Rattle.checker.proofs.Breaches.{feasible_from_none, settled_from_none}
+use Rattle.checker.proofs.Rules.{proper_seen}
 
 -- marks say whether the prices of a result that breaks no rule are the lowest
 module _
-    (m : Market) (o : Outcome) (ps old new : List ℕ) (proper : Proper m) (none : broken_of m o ps ≡ None)
-    (marks : Marks m o ps old new)
+    (m : Market) (o : Outcome) (ps old new : List ℕ) (proper : Proper m) (plain : Plain m)
+    (none : broken_of m o ps ≡ None) (marks : Marks m o ps old new)
   where
     lower_said : (lower : Option ℕ) → lower ≡ unmarked m new → LowerSaid m o ps lower
     lower_said None is =
-        lowest m o ps old new proper (feasible_from_none m o ps none) (settled_from_none m o ps none) marks (sym is)
+        lowest m o ps old new proper plain (feasible_from_none m o ps none) (settled_from_none m o ps none) marks (sym is)
     lower_said (Some z) is =
-        first_lower m o ps old new proper (feasible_from_none m o ps none) (settled_from_none m o ps none) marks z (sym is)
+        first_lower m o ps old new proper plain (feasible_from_none m o ps none) (settled_from_none m o ps none) marks z (sym is)
 
-    pub accepted_with :
-        (lower : Option ℕ) → lower ≡ unmarked m new → AcceptedWith m o ps (reports.Accepted lower)
-    accepted_with lower is = record { lower = lower; report = refl; said = lower_said lower is }
+    accepted_lower : (lower : Option ℕ) → lower ≡ unmarked m new → AcceptedWith m o ps (reports.Accepted lower)
+    accepted_lower lower is = record { lower = lower; report = refl; said = lower_said lower is }
+
+pub accepted_with :
+    (bs : List ℕ) (o : Outcome) (ps old new : List ℕ) → is_some (refusal_of bs) ≡ false →
+    broken_of (market_of bs) o ps ≡ None → Marks (market_of bs) o ps old new → (lower : Option ℕ) →
+    lower ≡ unmarked (market_of bs) new → AcceptedWith (market_of bs) o ps (reports.Accepted lower)
+accepted_with bs o ps old new free none marks =
+    accepted_lower (market_of bs) o ps old new (proper_seen bs free) (plain_said bs) none marks
 
 -- Idea: of a text only one case of a report is asked for, and of two zones only one is the first that could be lower.
 module _ (m : Market) (o : Outcome) (ps : List ℕ) (f : Feasible m o) where

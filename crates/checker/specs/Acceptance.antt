@@ -1,12 +1,11 @@
 -- When a published result is accepted, and the first rule that it breaks. Assumes nothing: these are definitions.
 --
 --   claimed f c            f of the market, the outcome and the prices of a claim
---   content_test l x c v   whether x is content, as Content says, where a unit costs c and brings v
---   item_broken            the rule that a buy, a sell or a line breaks: too large comes before not allowed
---   buy_broken, sell_broken, line_broken
---                          the same for number k of them
---   sort_broken            the same for number k of a sort, and first_broken for the first of them
---   comes, goes            what is sold in a zone and flows in; what is bought there and flows out
+--   content_test t x       whether x is content on the terms t, as Content says
+--   terms_broken s k t x   the rule that the k-th of a sort breaks, with the terms t and the amount x: too large comes before not
+--                          allowed
+--   item_broken m o ps s k the same of the k-th of a sort; first_broken the first of them
+--   comes, goes            what is sold in a zone, flows in and is supplied; what is bought there and flows out
 --   side_total             one of the four sums of a zone's balance: of side_count items, each of them in its side_zone, with an
 --                          amount in side_amounts
 --   side_counted           the amount of item k of a side where it counts in a zone, and else nothing
@@ -25,10 +24,12 @@
 use Rattle.std.specs.Prelude.{◌≡◌, ℕ, ◌+◌, Bool, true, cond, not, List, length, Some, None, Ok, Err, Option, Result, ◌==◌, nat_lt}
 use Rattle.hour.specs.Bytes.{head_of, market_of, refusal_with}
 use Rattle.hour.specs.First.{when, ◌else◌, first}
-use Rattle.hour.specs.Market.{Market, Outcome, Feasible, Settled, at, bid, line, count_of, in_zone, into, out_of}
+use Rattle.hour.specs.Items.{item}
+use Rattle.hour.specs.Market.{Market, Outcome, Feasible, Settled, at, bid, line, terms, carried, count_of, in_zone, into, out_of}
 use Rattle.hour.specs.Rules.{lent_fault}
 use Rattle.hour.specs.Seen.{market_seen}
 use Rattle.hour.specs.Total.{tagged}
+use Rattle.hour.specs.declared.items.Terms.{Terms}
 use Rattle.hour.specs.declared.reading.Head.{Head}
 use Rattle.hour.specs.declared.refusals.Refusal.{Refusal}
 use Rattle.hour.specs.declared.refusals.Sort.{Sort}
@@ -45,40 +46,22 @@ use Rattle.checker.specs.declared.balance.Side.TheVariants.{Sold, Into, Bought, 
 abbrev pub claimed {ℓ} : {A : Type ℓ} → (Market → Outcome → List ℕ → A) → Claim → A
 claimed f c = f (market_seen c.hour) (outcome_given c.amounts) c.prices.now
 
-abbrev pub content_test : ℕ → ℕ → ℕ → ℕ → Bool
-content_test limit amount cost value =
-    cond (nat_lt cost value) (amount == limit) (cond (nat_lt value cost) (amount == 0) true)
+abbrev pub content_test : Terms → ℕ → Bool
+content_test t x =
+    cond (nat_lt t.cost t.value) (x == t.limit) (cond (nat_lt t.value t.cost) (x == 0) true)
 
-abbrev pub item_broken : Sort → ℕ → ℕ → ℕ → ℕ → ℕ → Option Broken
-item_broken sort number limit amount cost value =
-    when (nat_lt limit amount) (TooLarge sort number)
-    else when (not (content_test limit amount cost value)) (NotAllowed sort number)
+abbrev pub terms_broken : Sort → ℕ → Terms → ℕ → Option Broken
+terms_broken sort number t x =
+    when (nat_lt t.limit x) (TooLarge sort number) else when (not (content_test t x)) (NotAllowed sort number)
 
-abbrev pub buy_broken : Market → Outcome → List ℕ → ℕ → Option Broken
-buy_broken m o ps k =
-    item_broken sorts.Buy k
-    (bid m.buys k).amount (at o.bought k) (at ps (bid m.buys k).zone) (bid m.buys k).price
-
-abbrev pub sell_broken : Market → Outcome → List ℕ → ℕ → Option Broken
-sell_broken m o ps k =
-    item_broken sorts.Sell k
-    (bid m.sells k).amount (at o.sold k) (bid m.sells k).price (at ps (bid m.sells k).zone)
-
-abbrev pub line_broken : Market → Outcome → List ℕ → ℕ → Option Broken
-line_broken m o ps k =
-    item_broken sorts.Line k
-    (line m.lines k).capacity (at o.flow k) (at ps (line m.lines k).from) (at ps (line m.lines k).to)
-
-abbrev pub sort_broken : Market → Outcome → List ℕ → Sort → ℕ → Option Broken
-sort_broken m o ps sorts.Buy k = buy_broken m o ps k
-sort_broken m o ps sorts.Sell k = sell_broken m o ps k
-sort_broken m o ps sorts.Line k = line_broken m o ps k
+abbrev pub item_broken : Market → Outcome → List ℕ → Sort → ℕ → Option Broken
+item_broken m o ps sort k = terms_broken sort k (terms m ps (item sort k)) (carried o (item sort k))
 
 abbrev pub first_broken : Market → Outcome → List ℕ → Sort → Option Broken
-first_broken m o ps sort = first (count_of m sort) (sort_broken m o ps sort)
+first_broken m o ps sort = first (count_of m sort) (item_broken m o ps sort)
 
 abbrev pub comes : Market → Outcome → ℕ → ℕ
-comes m o z = in_zone z m.sells o.sold + into z m.lines o.flow
+comes m o z = in_zone z m.sells o.sold + into z m.lines o.flow + at m.supplies z
 
 abbrev pub goes : Market → Outcome → ℕ → ℕ
 goes m o z = in_zone z m.buys o.bought + out_of z m.lines o.flow

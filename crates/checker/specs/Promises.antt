@@ -24,7 +24,7 @@
 use Rattle.std.specs.Prelude.{◌≡◌, ℕ, ◌+◌, ◌^◌, ◌<◌, ◌≤◌, ◌↔◌, List, ◌++◌, length, None, Ok, Option, Result}
 use Rattle.hour.specs.Bytes.{market_of, refusal_of}
 use Rattle.hour.specs.Listed.{listed}
-use Rattle.hour.specs.Market.{Market, Outcome, Feasible, Settled, at, worth, count_of}
+use Rattle.hour.specs.Market.{Market, Outcome, Feasible, Settled, at, worth, costs, count_of}
 use Rattle.hour.specs.Rules.{KeepsRules, max_zones, max_bids, max_lines}
 use Rattle.hour.specs.declared.refusals.Sort.{Sort}
 use Rattle.hour.specs.declared.refusals.Sort.TheVariants as sorts
@@ -49,8 +49,8 @@ use Rattle.checker.specs.declared.verdict.Objection.{Objection}
 abbrev pub AcceptedBest : Type 0
 AcceptedBest =
     (bs : List ℕ) (o p : Outcome) (ps : List ℕ) → verdict_of bs o ps ≡ Ok tt → Feasible (market_of bs) p →
-    worth (market_of bs).buys p.bought + worth (market_of bs).sells o.sold
-    ≤ worth (market_of bs).buys o.bought + worth (market_of bs).sells p.sold
+    worth (market_of bs).buys p.bought + costs (market_of bs) o
+    ≤ worth (market_of bs).buys o.bought + costs (market_of bs) p
 
 pub record Published (bs : List ℕ) (o : Outcome) (ps : List ℕ) : Type 0 where
   pub hour : refusal_of bs ≡ None

@@ -4,101 +4,39 @@ ghost use Rattle.std.specs.Result.{result_err};
 ghost use Rattle.hour.specs.Market.{count_of};
 ghost use Rattle.hour.specs.Seen.{market_seen};
 ghost use Rattle.network.specs.Tables.{outcome_in};
-ghost use Rattle.network.specs.Given.{};
-ghost use Rattle.checker.specs.Acceptance.{claimed, item_broken, buy_broken, sell_broken, line_broken};
-ghost use Rattle.checker.specs.Acceptance.{sort_broken, first_broken, broken_of};
+ghost use Rattle.checker.specs.Acceptance.{claimed, terms_broken, item_broken, first_broken, broken_of};
 ghost use Rattle.checker.specs.Acceptance.{verdict_of, Stands, Exactly};
 
 use crate::claim::Claim;
 use crate::lent::hour_to_check;
 use crate::standing::Standing;
 use crate::verdict::{Broken, Objection};
-use hour::Sort;
+use hour::{Item, Sort, Terms};
+use network::Amounts;
 use network::settled::content;
-use network::{Amounts, number_at};
 
-// The rule that a buy, a sell or a line breaks, where a unit costs and brings so much.
-fn check_item(
-    sort: Sort,
-    number: usize,
-    limit: u64,
-    amount: u64,
-    cost: u64,
-    value: u64,
-) -> Result<(), Broken>
-    ensures { result_err result ≡ item_broken sort number limit amount cost value }
+// The rule that the k-th of a sort breaks, with these terms and this amount.
+fn check_terms(sort: Sort, number: usize, terms: Terms, amount: u64) -> Result<(), Broken>
+    ensures { result_err result ≡ terms_broken sort number terms amount }
 {
-    if amount > limit {
+    if amount > terms.limit {
         return Err(Broken::TooLarge { sort, number });
     }
-    if !content(limit, amount, cost, value) {
+    if !content(terms, amount) {
         return Err(Broken::NotAllowed { sort, number });
     }
     Ok(())
 }
 
 impl<'a> Claim<'a> {
-    // A unit costs a buyer the zone's price and brings the bid's.
-    fn check_buy(self, k: usize) -> Result<(), Broken>
-        requires { k < self.hour.buys }
-        ensures { result_err result ≡ claimed buy_broken self.entry k }
-    {
-        let buy = self.hour.buy(k);
-        let price = number_at(self.prices, buy.zone as usize);
-        check_item(
-            Sort::Buy,
-            k,
-            buy.amount,
-            number_at(self.amounts.bought, k),
-            price,
-            buy.price,
-        )
-    }
-
-    // It costs a seller the bid's price and brings the zone's.
-    fn check_sell(self, k: usize) -> Result<(), Broken>
-        requires { k < self.hour.sells }
-        ensures { result_err result ≡ claimed sell_broken self.entry k }
-    {
-        let sell = self.hour.sell(k);
-        let price = number_at(self.prices, sell.zone as usize);
-        check_item(
-            Sort::Sell,
-            k,
-            sell.amount,
-            number_at(self.amounts.sold, k),
-            sell.price,
-            price,
-        )
-    }
-
-    // It costs a line the price where it begins and brings the price where it ends.
-    fn check_line(self, k: usize) -> Result<(), Broken>
-        requires { k < self.hour.lines }
-        ensures { result_err result ≡ claimed line_broken self.entry k }
-    {
-        let line = self.hour.line(k);
-        let begin = number_at(self.prices, line.from as usize);
-        let end = number_at(self.prices, line.to as usize);
-        check_item(
-            Sort::Line,
-            k,
-            line.capacity,
-            number_at(self.amounts.flow, k),
-            begin,
-            end,
-        )
-    }
-
-    fn check_one(self, sort: Sort, k: usize) -> Result<(), Broken>
+    #[tactic(auto, using(ledger::proofs::Limits::among_item))]
+    fn check_item(self, sort: Sort, k: usize) -> Result<(), Broken>
         requires { k < count_of (market_seen self.hour) sort }
-        ensures { result_err result ≡ claimed sort_broken self.entry sort k }
+        ensures { result_err result ≡ claimed item_broken self.entry sort k }
     {
-        match sort {
-            Sort::Buy => self.check_buy(k),
-            Sort::Sell => self.check_sell(k),
-            Sort::Line => self.check_line(k),
-        }
+        let item = Item::of(sort, k);
+        let terms = self.hour.terms(self.prices, item);
+        check_terms(sort, k, terms, self.amounts.of(item))
     }
 
     // The first rule that one of a sort breaks.
@@ -106,7 +44,7 @@ impl<'a> Claim<'a> {
         ensures { result_err result ≡ claimed first_broken self.entry sort }
     {
         for k in 0..self.hour.count(sort) {
-            self.check_one(sort, k)?;
+            self.check_item(sort, k)?;
         }
         Ok(())
     }

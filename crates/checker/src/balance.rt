@@ -1,4 +1,4 @@
-// Whether each zone is in balance: what is sold there and flows in is what is bought there and flows out.
+// Whether each zone is in balance: what is sold there, flows in and is supplied is what is bought there and flows out.
 ghost use Rattle.std.specs.Prelude.{◌≡◌, ◌-◌, ◌*◌, ◌^◌, ◌<◌, ◌≤◌};
 ghost use Rattle.std.specs.Result.{result_err};
 ghost use Rattle.hour.specs.Seen.{market_seen};
@@ -81,7 +81,7 @@ impl<'a> Claim<'a> {
             .sum()
     }
 
-    // Whether as much comes into a zone as goes out of it.
+    // Whether as much comes into a zone as goes out of it; an hour's bytes say no supplies.
     fn check_zone(self, zone: usize) -> Result<(), Broken>
         ensures { result_err result
             ≡ zone_broken (market_seen self.entry.hour) (outcome_given self.entry.amounts) zone }

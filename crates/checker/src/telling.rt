@@ -27,7 +27,7 @@ impl Standing<'_> {
     }
 
     // What is said where all rows follow.
-    #[tactic(auto, using(crate::proofs::Told::accepted_with, crate::proofs::Rules::proper_seen))]
+    #[tactic(auto, using(crate::proofs::Told::accepted_with))]
     fn accept(self, heap: Global) -> Result<Report, AllocError>
         ensures { IfOk result (claimed AcceptedWith self.entry.claim) }
     {

@@ -4,8 +4,8 @@ use Rattle.hour.specs.Seen.{market_seen}
 use Rattle.hour.proofs.First.{first_answer, first_more}
 use Rattle.checker.proofs.claim.Claim.check_sort.Goals as goal
 
-pub returns-in_err-check_one : goal.returns-in_err-check_one
-returns-in_err-check_one c =
+pub returns-in_err-check_item : goal.returns-in_err-check_item
+returns-in_err-check_item c =
     first_answer _ c.loop-k.k (count_of (market_seen c.args.self.hour) c.args.sort) _ (omega arith)
     c.loop-k.invariant (search rules) (search rules)
 
