@@ -36,6 +36,7 @@ fn drawn_line(draws: &mut Draws, zones: u64) -> Line {
         from: draws.below(zones),
         to: draws.below(zones),
         capacity: draws.between(0, LARGEST_AMOUNT),
+        cost: 0,
     }
 }
 
