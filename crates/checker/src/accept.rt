@@ -49,7 +49,7 @@ impl<'a> Claim<'a> {
         Ok(())
     }
 
-    // That it breaks no rule, or the first rule broken: buys, sells, lines, zones, each by number.
+    /// That it breaks no rule, or the first rule broken: buys, sells, lines, zones, each by number.
     pub fn check(self) -> Result<Standing<'a>, Broken>
         ensures broken { result_err result ≡ claimed broken_of self.entry }
         ensures same { IfOk result (λ standing. standing.claim ≡ self.entry) }
@@ -62,8 +62,8 @@ impl<'a> Claim<'a> {
     }
 }
 
-// Whether a published result stands: its amounts and flows can be carried out, and its prices settle them. Slices may be longer
-// than needed; nothing is assumed of what they hold.
+/// Whether a published result stands: its amounts and flows can be carried out, and its prices settle them. Slices may be longer
+/// than needed; nothing is assumed of what they hold.
 pub fn check<'a>(
     bytes: &[u8],
     bought: &'a [u64],

@@ -11,7 +11,7 @@ use crate::claim::Claim;
 use crate::verdict::Broken;
 use network::number_at;
 
-// One of the four sums of a zone's balance.
+/// One of the four sums of a zone's balance.
 #[derive(Clone, Copy)]
 pub enum Side {
     Sold,
@@ -95,7 +95,7 @@ impl<'a> Claim<'a> {
         Ok(())
     }
 
-    // The first zone out of balance.
+    /// The first zone out of balance.
     pub fn check_zones(self) -> Result<(), Broken>
         ensures { result_err result
             ≡ first

@@ -19,7 +19,7 @@ const LONGEST_ROW: usize = 5 + 20 + 9 + 20 + 7 + 40 + 1;
 pub const LONGEST_TEXT: usize = LONGEST_ROW
     * (1 + MAX_ZONES as usize + MAX_BIDS as usize + MAX_BIDS as usize + MAX_LINES as usize);
 
-// What stands around the numbers in a row of a sort.
+/// What stands around the numbers in a row of a sort.
 #[derive(Clone, Copy)]
 pub struct Phrases<'a> {
     pub sort: &'a str,
@@ -90,7 +90,7 @@ fn item_row<'a>(sort: Sort, k: usize, bytes: &'a [u8]) -> Option<((u64, i128), &
     phrased_row(phrases_of(sort), k, bytes)
 }
 
-// Why a text is not read: memory is wanting, or this line is not in the form.
+/// Why a text is not read: memory is wanting, or this line is not in the form.
 #[derive(Clone, Copy)]
 pub enum Stop {
     Memory(AllocError),
@@ -105,14 +105,14 @@ impl<T: Drop> From<AllocFailed<T>> for Stop {
     }
 }
 
-// What the rows of the zones say, and the text behind them.
+/// What the rows of the zones say, and the text behind them.
 #[derive(Drop)]
 pub struct Zones<'a> {
     pub prices: Vec<u64>,
     pub rest: &'a [u8],
 }
 
-// What the rows of a sort say, and the text behind them. Amounts are a list of their own, since a claim takes them alone.
+/// What the rows of a sort say, and the text behind them. Amounts are a list of their own, since a claim takes them alone.
 #[derive(Drop)]
 pub struct Rows<'a> {
     pub amounts: Vec<u64>,
@@ -120,7 +120,7 @@ pub struct Rows<'a> {
     pub rest: &'a [u8],
 }
 
-// How many of each an hour has.
+/// How many of each an hour has.
 #[derive(Clone, Copy)]
 pub struct Counts {
     pub zones: usize,
@@ -140,7 +140,7 @@ impl Counts {
         }
     }
 
-    // The line at which the rows of a sort begin.
+    /// The line at which the rows of a sort begin.
     pub fn first_line(self, sort: Sort) -> usize
         requires { first_line self sort < 2 ^ 64 }
         ensures { result ≡ first_line self sort }
@@ -191,7 +191,7 @@ fn item_rows<'a>(heap: Global, sort: Sort, n: Counts, bytes: &'a [u8]) -> Result
     })
 }
 
-// All that a text says.
+/// All that a text says.
 #[derive(Drop)]
 pub struct Said<'a> {
     pub worth: i128,
@@ -202,7 +202,7 @@ pub struct Said<'a> {
     pub lines: Rows<'a>,
 }
 
-// What a published text says of an hour with so many zones, buys, sells and lines; or its first line that is not in the form.
+/// What a published text says of an hour with so many zones, buys, sells and lines; or its first line that is not in the form.
 pub fn read_text<'a>(heap: Global, n: Counts, bytes: &'a [u8]) -> Result<Said<'a>, Stop>
     requires { last_line n < 2 ^ 64 }
     ensures { AnswersAs result said_seen (text_at n bytes.now) }

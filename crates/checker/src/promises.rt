@@ -43,7 +43,7 @@ pub fn house_text_holds()
     ensures { HouseText }
 {}
 
-// The constant of the code is the number of the definition.
+/// The constant of the code is the number of the definition.
 pub fn longest_text_holds()
     ensures { LONGEST_TEXT ≡ longest_text }
 {}

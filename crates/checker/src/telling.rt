@@ -70,8 +70,8 @@ fn judge_said(heap: Global, hour: Hour<'_>, said: &Said<'_>) -> Result<Report, A
     claim.judge(heap, said)
 }
 
-// What is said of any text for the hour that any bytes say: refused, unreadable, broken, a wrong row, and only if none of these:
-// accepted. An error is want of memory.
+/// What is said of any text for the hour that any bytes say: refused, unreadable, broken, a wrong row, and only if none of these:
+/// accepted. An error is want of memory.
 pub fn report_on(heap: Global, bytes: &[u8], text: &[u8]) -> Result<Report, AllocError>
     ensures { IfOk result (Reports bytes.now text.now) }
 {

@@ -14,8 +14,8 @@
 --   LabelsFall          labels never rise from one search to the next
 --   Cleared m           an outcome that can be carried out, and prices that settle it, one for each zone, the lowest that
 --                       settle anything
---   Always              every proper and plain market has an outcome that can be carried out and prices that settle it, the lowest that
---                       settle anything
+--   Always              every proper and plain market has an outcome that can be carried out and prices that settle it, the
+--                       lowest that settle anything
 --   ClearedByLists m    an outcome that can be carried out, and prices that settle it, one for each zone, in the words by lists
 --   AlwaysByLists       every market that is proper and plain has them
 use Rattle.std.specs.Prelude.{◌≡◌, ℕ, ◌+◌, ◌-◌, ◌*◌, ◌<◌, ◌≤◌, List, length}

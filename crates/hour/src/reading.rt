@@ -15,7 +15,7 @@ use crate::rules::{Lengths, check_count, check_zones};
 /// How many bytes an hour's head has.
 pub const HEAD_SIZE: usize = 7;
 
-// The counts of an hour, as its first seven bytes say.
+/// The counts of an hour, as its first seven bytes say.
 #[derive(Clone, Copy, Debug, PartialEq, Eq)]
 pub struct Head {
     pub zones: u64,
@@ -106,7 +106,7 @@ fn check_each<E: Entry>(bytes: &[u8], zones: u64, bids: usize, count: usize) -> 
     Ok(())
 }
 
-// The first rule that a bid or a line breaks, of bytes with this head.
+/// The first rule that a bid or a line breaks, of bytes with this head.
 pub fn check_items(bytes: &[u8], head: Head) -> Result<(), Refusal>
     requires { head_read bytes.now ≡ Ok head }
     ensures { result_err result ≡ item_fault (market_of bytes.now) }
@@ -119,7 +119,7 @@ pub fn check_items(bytes: &[u8], head: Head) -> Result<(), Refusal>
     check_each::<Line>(bytes, head.zones, buys + sells, lines)
 }
 
-// The first rule that the bytes break.
+/// The first rule that the bytes break.
 pub fn check_bytes(bytes: &[u8]) -> Result<(), Refusal>
     ensures { result_err result ≡ refusal_of bytes.now }
 {
@@ -127,7 +127,7 @@ pub fn check_bytes(bytes: &[u8]) -> Result<(), Refusal>
     check_items(bytes, head)
 }
 
-// The same, or nothing: then they are an hour. For a caller that wants the refusal and not the hour; it is public, and stays so.
+/// The same, or nothing: then they are an hour. For a caller that wants the refusal and not the hour; it is public, and stays so.
 pub fn refusal(bytes: &[u8]) -> Option<Refusal>
     ensures { result ≡ refusal_of bytes.now }
 {

@@ -6,7 +6,7 @@ ghost use Rattle.hour.specs.Text.{refused, sort_word};
 use std::error::Error;
 use std::fmt;
 
-// The three sorts of an hour's entries.
+/// The three sorts of an hour's entries.
 #[derive(Clone, Copy, Debug, PartialEq, Eq)]
 pub enum Sort {
     Buy,
@@ -63,7 +63,7 @@ pub enum Refusal {
 }
 
 impl Refusal {
-    // The number by which the office publishes the rule that is broken.
+    /// The number by which the office publishes the rule that is broken.
     pub fn number(&self) -> u64
         ensures { result ≡ number_of self.now }
     {
@@ -80,7 +80,7 @@ impl Refusal {
         }
     }
 
-    // The byte at which it is broken, the length that came, or the number of the lent slice.
+    /// The byte at which it is broken, the length that came, or the number of the lent slice.
     pub fn place(&self) -> usize
         ensures { result ≡ place_of self.now }
     {

@@ -32,7 +32,7 @@ impl Sort {
     }
 }
 
-// The rule on the number of zones.
+/// The rule on the number of zones.
 pub fn check_zones(zones: u64) -> Result<(), Refusal>
     ensures { result_err result ≡ zones_fault zones }
 {
@@ -42,7 +42,7 @@ pub fn check_zones(zones: u64) -> Result<(), Refusal>
     Ok(())
 }
 
-// The rule on the number of entries of a sort.
+/// The rule on the number of entries of a sort.
 pub fn check_count(sort: Sort, count: u64) -> Result<(), Refusal>
     ensures { result_err result ≡ count_fault sort count }
 {
@@ -52,7 +52,7 @@ pub fn check_count(sort: Sort, count: u64) -> Result<(), Refusal>
     Ok(())
 }
 
-// The first of these rules that is broken.
+/// The first of these rules that is broken.
 pub fn check_counts(zones: u64, buys: u64, sells: u64, lines: u64) -> Result<(), Refusal>
     ensures { result_err result ≡ counts_fault zones buys sells lines }
 {
@@ -62,7 +62,7 @@ pub fn check_counts(zones: u64, buys: u64, sells: u64, lines: u64) -> Result<(),
     check_count(Sort::Line, lines)
 }
 
-// The rule on a lent slice: it has a number among those that are lent, by which it is published, and needs some length.
+/// The rule on a lent slice: it has a number among those that are lent, by which it is published, and needs some length.
 pub fn check_lent(slice: usize, has: usize, needed: usize) -> Result<(), Refusal>
     ensures { result_err result ≡ lent_fault slice has needed }
 {
@@ -72,7 +72,7 @@ pub fn check_lent(slice: usize, has: usize, needed: usize) -> Result<(), Refusal
     Ok(())
 }
 
-// How long slices are that hold a result: amounts bought and sold, flows and prices.
+/// How long slices are that hold a result: amounts bought and sold, flows and prices.
 #[derive(Clone, Copy, Debug, PartialEq, Eq)]
 pub struct Lengths {
     pub bought: usize,
@@ -81,7 +81,7 @@ pub struct Lengths {
     pub prices: usize,
 }
 
-// The first of these slices that is shorter than needed, by its number from 0.
+/// The first of these slices that is shorter than needed, by its number from 0.
 pub fn check_results(has: Lengths, needed: Lengths) -> Result<(), Refusal>
     ensures { result_err result ≡ results_fault has needed }
 {
@@ -91,7 +91,7 @@ pub fn check_results(has: Lengths, needed: Lengths) -> Result<(), Refusal>
     check_lent(3, has.prices, needed.prices)
 }
 
-// The first rule that a bid breaks, of which the first byte stands at `place` in the written hour.
+/// The first rule that a bid breaks, of which the first byte stands at `place` in the written hour.
 pub fn check_bid(zones: u64, place: usize, bid: Bid) -> Result<(), Refusal>
     requires { place + 4 < 2 ^ 64 }
     ensures { result_err result ≡ bid_fault zones place bid }
@@ -117,7 +117,7 @@ pub fn check_bid(zones: u64, place: usize, bid: Bid) -> Result<(), Refusal>
     Ok(())
 }
 
-// The first rule that a line breaks, of which the first byte stands at `place` in the written hour.
+/// The first rule that a line breaks, of which the first byte stands at `place` in the written hour.
 pub fn check_line(zones: u64, place: usize, line: Line) -> Result<(), Refusal>
     requires { place + 2 < 2 ^ 64 }
     ensures { result_err result ≡ line_fault zones place line }

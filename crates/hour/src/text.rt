@@ -75,7 +75,7 @@ fn write_listing(text: &mut String, bytes: &[u8]) -> Result<(), AllocError>
     }
 }
 
-// The text of any bytes; an error is want of memory.
+/// The text of any bytes; an error is want of memory.
 pub fn listing(heap: Global, bytes: &[u8]) -> Result<String, AllocError>
     ensures { IfOk result (λ t. string_bytes t ≡ listing_of bytes.now) }
 {

@@ -18,8 +18,8 @@ pub fn number_at(xs: &[u64], k: usize) -> u64
     xs.get(k).copied().unwrap_or(0)
 }
 
-// The bytes of an hour that keeps every rule, with its counts; bids and lines are read where they stand. The counts are those
-// that the bytes say, and those of the market's lists.
+/// The bytes of an hour that keeps every rule, with its counts; bids and lines are read where they stand. The counts are those
+/// that the bytes say, and those of the market's lists.
 #[derive(Clone, Copy)]
 pub struct Hour<'a> {
     bytes: &'a [u8],
@@ -41,7 +41,7 @@ pub struct Hour<'a> {
 impl<'a> Hour<'a> {
     ghost use Rattle.hour.specs.Seen.{market_seen};
 
-    // The hour that the bytes say, of bytes that are not refused.
+    /// The hour that the bytes say, of bytes that are not refused.
     pub fn of(bytes: &'a [u8]) -> Hour<'a>
         requires { is_some (refusal_of bytes.now) ≡ false }
         ensures { result.bytes.now ≡ bytes.now }
@@ -86,7 +86,7 @@ impl<'a> Hour<'a> {
         self.lines
     }
 
-    // How many of a sort it has.
+    /// How many of a sort it has.
     pub fn count(self, sort: Sort) -> usize
         ensures { result ≡ count_of (market_seen self.entry) sort }
     {

@@ -65,15 +65,15 @@ fn clear_and_book(
     pushes
 }
 
-// Clears an hour, from its bytes to its ledger, or refuses it. Lent slices may be longer than needed: what is behind stays as it was.
-// Each sentence that may be disputed is a clause:
-// - `refusal`: what is refused has the rule and the place of the list; an hour that keeps the rules, with enough lent, is not refused;
-// - `carried_out`, `settled`, `lowest`: amounts and flows keep all limits and balances, the prices settle them and are the lowest;
-// - `no_regret`, `best`: nobody would rather have another amount, and nothing that can be carried out is worth more;
-// - `rows`, `small`, `read`: each number of the ledger; none is large, and read as a signed number of 64 bits it is the money itself;
-// - `even`: what is collected is what is paid and what lines earn, and no line earns less than nothing;
-// - `found`, `pushes`: amounts, flows, prices and the count are those of the definition, and each push paid;
-// - `bought` to `work`: every other number of lent memory, and all of it where the hour is refused.
+/// Clears an hour, from its bytes to its ledger, or refuses it. Lent slices may be longer than needed: what is behind stays as it was.
+/// Each sentence that may be disputed is a clause:
+/// - `refusal`: what is refused has the rule and the place of the list; an hour that keeps the rules, with enough lent, is not refused;
+/// - `carried_out`, `settled`, `lowest`: amounts and flows keep all limits and balances, the prices settle them and are the lowest;
+/// - `no_regret`, `best`: nobody would rather have another amount, and nothing that can be carried out is worth more;
+/// - `rows`, `small`, `read`: each number of the ledger; none is large, and read as a signed number of 64 bits it is the money itself;
+/// - `even`: what is collected is what is paid and what lines earn, and no line earns less than nothing;
+/// - `found`, `pushes`: amounts, flows, prices and the count are those of the definition, and each push paid;
+/// - `bought` to `work`: every other number of lent memory, and all of it where the hour is refused.
 pub fn clear(
     bytes: &[u8],
     bought: &mut [u64],

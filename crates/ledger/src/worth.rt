@@ -41,7 +41,7 @@ impl Carried<'_, '_> {
     }
 }
 
-// What is bought is worth, less what is sold and what flows cost. Its callers hold the fact that it asks for, each in a type of its own.
+/// What is bought is worth, less what is sold and what flows cost. Its callers hold the fact that it asks for, each in a type of its own.
 pub fn worth_in(hour: Hour<'_>, o: Amounts<'_>) -> i64
     requires { Feasible (market_seen hour) (outcome_given o) }
     ensures { result ≡ worth_by (market_seen hour.entry) (outcome_given o.entry) }

@@ -18,7 +18,7 @@ pub struct Tables<'a> {
     pub lines: &'a [u64],
 }
 
-// An amount for each bid and a flow for each line; a number that a list lacks is 0.
+/// An amount for each bid and a flow for each line; a number that a list lacks is 0.
 #[derive(Clone, Copy)]
 pub struct Amounts<'a> {
     pub bought: &'a [u64],
@@ -27,7 +27,7 @@ pub struct Amounts<'a> {
 }
 
 impl Amounts<'_> {
-    // How much an item carries.
+    /// How much an item carries.
     pub fn of(self, item: Item) -> u64
         ensures { result ≡ carried (outcome_given self.entry) item }
     {
@@ -48,14 +48,14 @@ fn rows(table: &[u64]) -> &[[u64; 3]]
     table.as_chunks::<3>().0
 }
 
-// How many rows a table has.
+/// How many rows a table has.
 pub fn row_count(table: &[u64]) -> usize
     ensures { result ≡ items table.now }
 {
     rows(table).len()
 }
 
-// What a row of a table says, made of its three numbers.
+/// What a row of a table says, made of its three numbers.
 pub trait Row: Sized {
     ghost made: { ℕ → ℕ → ℕ → Self };
 
@@ -95,7 +95,7 @@ fn row_of<R: Row>(row: [u64; 3]) -> R
     R::of(first, second, third)
 }
 
-// The k-th row of a table.
+/// The k-th row of a table.
 #[tactic(auto, using(crate::proofs::Triples::row_made))]
 pub fn row_in<R: Row>(table: &[u64], k: usize) -> R
     requires { k < items table.now }
@@ -104,7 +104,7 @@ pub fn row_in<R: Row>(table: &[u64], k: usize) -> R
     row_of(rows(table)[k])
 }
 
-// Past the end of the table all three numbers are 0.
+/// Past the end of the table all three numbers are 0.
 #[tactic(auto, using(crate::proofs::Triples::row_made))]
 pub fn row_at<R: Row>(table: &[u64], k: usize) -> R
     ensures { result ≡ nth_row R.made table.now k }
@@ -112,7 +112,7 @@ pub fn row_at<R: Row>(table: &[u64], k: usize) -> R
     row_of(rows(table).get(k).copied().unwrap_or([0; 3]))
 }
 
-// Item k of all: buys first, then sells, then lines.
+/// Item k of all: buys first, then sells, then lines.
 pub fn item_at(t: Tables, k: usize) -> Item
     ensures { result ≡ nth (items t.entry.buys.now) (items t.entry.sells.now) k }
 {
@@ -133,7 +133,7 @@ pub fn item_count(t: Tables) -> usize
     row_count(t.buys) + row_count(t.sells) + row_count(t.lines)
 }
 
-// What amounts are worth at the prices of their bids; none where that is too large for 128 bits.
+/// What amounts are worth at the prices of their bids; none where that is too large for 128 bits.
 #[tactic(auto, using(crate::proofs::Rows::worth_turn))]
 pub fn bids_worth(bids: &[u64], amounts: &[u64]) -> Option<u128>
     ensures { SomeIff
@@ -149,14 +149,14 @@ pub fn bids_worth(bids: &[u64], amounts: &[u64]) -> Option<u128>
     Some(sum)
 }
 
-// What an outcome is worth: `gained` less `spent`.
+/// What an outcome is worth: `gained` less `spent`.
 #[derive(Clone, Copy)]
 pub struct Worth {
     pub gained: u128,
     pub spent: u128,
 }
 
-// None where what is bought or what is sold is worth too much for 128 bits.
+/// None where what is bought or what is sold is worth too much for 128 bits.
 pub fn worth_of(t: Tables, o: Amounts) -> Option<Worth>
     ensures { MatchOption
         result
@@ -207,7 +207,7 @@ fn zone_total(table: &[u64], column: Column, zone: u64, amounts: &[u64]) -> u128
     sum
 }
 
-// What is sold in a zone and flows in, and what is bought there and flows out.
+/// What is sold in a zone and flows in, and what is bought there and flows out.
 #[derive(Clone, Copy)]
 pub struct Balance {
     pub comes: u128,

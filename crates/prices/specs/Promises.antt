@@ -1,8 +1,9 @@
 -- What clearing promises, each a statement whose proof a contract of this crate asks for. Assumes nothing.
 --
---   FoundPromised    in a plain market, what is found can be carried out and is settled by its prices; no list that settles any outcome that can be
---                    carried out is lower in any zone; no outcome that can be carried out is worth more; nobody would rather have
---                    another amount; every push kept all that and raised the value, so that there are not many
+--   FoundPromised    in a plain market, what is found can be carried out and is settled by its prices; no list that settles any
+--                    outcome that can be carried out is lower in any zone; no outcome that can be carried out is worth more;
+--                    nobody would rather have another amount; every push kept all that and raised the value, so that there are
+--                    not many
 --   SomethingFound   a count, an outcome and prices that are found of a market
 --   AlwaysFound      for every proper and plain market something is found
 --   SameFound        two counts, two outcomes and two lists of prices are the same

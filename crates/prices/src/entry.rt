@@ -86,10 +86,10 @@ fn check_tables(t: Tables, has: Lengths, work: usize) -> Result<(), Refusal>
     check_items(t)
 }
 
-// Clears a market in tables, zone, price, amount of each bid and from, to, capacity of each line, beginning with nothing. Lent slices may be
-// longer than needed. On a refusal nothing is changed; else the work slice is left at zeros as far as it is needed. The slices stay apart as
-// they are lent: one value that holds five `&mut` needs a clause for each on what it gives back. The clause `answer` has the others, but for
-// `promised`, in one record, to which only one answer is possible (`one_tables_answer_holds`).
+/// Clears a market in tables, zone, price, amount of each bid and from, to, capacity of each line, beginning with nothing. Lent slices may be
+/// longer than needed. On a refusal nothing is changed; else the work slice is left at zeros as far as it is needed. The slices stay apart as
+/// they are lent: one value that holds five `&mut` needs a clause for each on what it gives back. The clause `answer` has the others, but for
+/// `promised`, in one record, to which only one answer is possible (`one_tables_answer_holds`).
 pub fn clear<'a>(
     zones: u64,
     buys: &'a [u64],

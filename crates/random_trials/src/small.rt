@@ -69,7 +69,7 @@ impl Small {
         Ok(small)
     }
 
-    // The hour as its bytes.
+    /// The hour as its bytes.
     pub fn bytes(&self, heap: Global) -> Result<Vec<u8>, AllocError> {
         let book = Book {
             zones: self.zones,

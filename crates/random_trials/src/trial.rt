@@ -15,8 +15,8 @@ const UNTOUCHED: u64 = 7;
 
 const LENT: [u64; 3] = [UNTOUCHED; 3];
 
-// What of an hour is as the slow search has it.
-// By default nothing is: so of an hour that is refused.
+/// What of an hour is as the slow search has it.
+/// By default nothing is: so of an hour that is refused.
 #[derive(Clone, Copy, Default)]
 pub struct Alike {
     // Something can be bought and sold for more than nothing: of other hours the trial shows less.

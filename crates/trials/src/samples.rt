@@ -2,7 +2,7 @@
 use anyhow::{Context, Result};
 use std::fs;
 
-// Those that break a rule, by what is wrong with them.
+/// Those that break a rule, by what is wrong with them.
 pub const REFUSED: [&str; 54] = [
     "empty",
     "one_byte",
@@ -74,7 +74,7 @@ pub const ODD: [&str; 9] = [
     "alternating",
 ];
 
-// The bytes of a sample of one kind, which lies in a folder of that name; no clause can say what a file gives.
+/// The bytes of a sample of one kind, which lies in a folder of that name; no clause can say what a file gives.
 pub fn sample(rt: &HostRuntime, kind: &str, name: &str) -> Result<Vec<u8>> {
     let path = format!(in rt.alloc(); "{kind}/{name}.bin")?;
     fs::read(rt, path.as_str()).context(format_args!("cannot read {path:?}"))
