@@ -1,10 +1,9 @@
 //! clear [-o FILE] [HOUR]: clears an hour, or says why it is refused.
 #![tactic(auto)]
 
-use anyhow::{Result, bail};
 use clap::{Arg, ArgAction, ArgMatches, Command};
 use office::{
-    Source, Status, VERSION, clear_hour, clear_to_file, end, end_answer, end_call, words,
+    Source, Status, Trouble, VERSION, clear_hour, clear_to_file, end, end_answer, end_call, words,
 };
 use std::alloc::{AllocError, Global};
 use std::io;
@@ -12,7 +11,7 @@ use std::process::ExitCode;
 
 const PROGRAM: &str = "clear";
 
-fn command<'a>(heap: Global) -> std::result::Result<Command<'a>, AllocError> {
+fn command<'a>(heap: Global) -> Result<Command<'a>, AllocError> {
     let hour = Arg::new(heap, "HOUR").action(ArgAction::Set).help(
         "The file of the hour; standard input where it is - or not given",
     );
@@ -32,28 +31,28 @@ fn command<'a>(heap: Global) -> std::result::Result<Command<'a>, AllocError> {
         .arg(hour)
 }
 
-fn clear(rt: &HostRuntime, found: &ArgMatches<'_>) -> Result<Status> {
+fn clear(rt: &HostRuntime, found: &ArgMatches<'_>) -> Result<Status, Trouble> {
     let source = found.get_str("HOUR").unwrap_or("-");
     let target = found.get_str("FILE").unwrap_or("-");
     let mut hour = Source::open(rt, source)?;
-    let answer = match target {
-        "-" => clear_hour(
-            rt.alloc(),
-            &mut hour,
-            &mut io::writer(rt),
-            &mut io::writer(rt),
-        )?,
-        name if name == source => bail!("{name:?} is the hour: it is not written over"),
-        name => clear_to_file(rt, &mut hour, name)?,
-    };
+    if target == "-" {
+        return match clear_hour(rt.alloc(), &mut hour, &mut io::writer(rt), &mut io::writer(rt)) {
+            Ok(answer) => Ok(end_answer(rt, PROGRAM, answer)),
+            Err(fault) => Err(Trouble::of(rt.alloc(), fault, source, "-")),
+        };
+    }
+    if target == source {
+        return Err(Trouble::kept(rt.alloc(), target, "is the hour"));
+    }
+    let answer = clear_to_file(rt, &mut hour, source, target)?;
     Ok(end_answer(rt, PROGRAM, answer))
 }
 
-fn run(rt: &HostRuntime) -> Result<Status> {
+fn run(rt: &HostRuntime) -> Result<Status, Trouble> {
     let words = words(rt)?;
     match command(rt.alloc())?.try_get_matches_from(words.as_slice()) {
         Ok(found) => clear(rt, &found),
-        Err(error) => end_call(rt, error),
+        Err(error) => Ok(end_call(rt, error)?),
     }
 }
 

@@ -6,8 +6,9 @@ ghost use Rattle.office.specs.Status.{status_of, status_of_run};
 use crate::clearing::{Answer, clear_hour};
 use crate::files::{Aside, Source};
 use crate::status::Status;
-use anyhow::{Context, Result, bail};
-use std::io::ErrorKind;
+use crate::troubles::Trouble;
+use anyhow::Context;
+use std::io::{Error, ErrorKind};
 use std::process::ExitCode;
 use std::{env, io};
 
@@ -15,16 +16,19 @@ use std::{env, io};
 pub const VERSION: &str = "0.2.0";
 
 /// The words of a program's call, its own name first.
-pub fn words(rt: &HostRuntime) -> Result<Vec<String>> {
-    let words = env::args(rt).context(
-        "cannot read the call: give a file whose name is not UTF-8 on standard input",
-    )?;
-    Ok(words.collect(rt.alloc())?)
+pub fn words(rt: &HostRuntime) -> anyhow::Result<Vec<String>> {
+    match env::args(rt) {
+        Ok(words) => Ok(words.collect(rt.alloc())?),
+        Err(error) if error.kind() == ErrorKind::InvalidData => Err(error).context(
+            "cannot read the call: give a file whose name is not UTF-8 on standard input",
+        ),
+        Err(error) => Err(error).context("cannot read the call"),
+    }
 }
 
 /// Answers a call that asks for help or for the version, or that is wrong: that is no clearing and no check. That whoever reads it has
 /// gone is no error.
-pub fn end_call(rt: &HostRuntime, error: clap::Error) -> Result<Status> {
+pub fn end_call(rt: &HostRuntime, error: clap::Error) -> anyhow::Result<Status> {
     match error.print(rt) {
         Err(fault) if fault.kind() != ErrorKind::BrokenPipe => return Err(fault.into()),
         _ => {}
@@ -36,8 +40,13 @@ pub fn end_call(rt: &HostRuntime, error: clap::Error) -> Result<Status> {
     }
 }
 
-/// Clears the hour into a file that is written aside; a refusal goes to standard output, and the file stays as it was.
-pub fn clear_to_file(rt: &HostRuntime, hour: &mut Source, name: &str) -> Result<Answer> {
+/// Clears the hour of that name into a file that is written aside; a refusal goes to standard output, and the file stays as it was.
+pub fn clear_to_file(
+    rt: &HostRuntime,
+    hour: &mut Source,
+    hour_name: &str,
+    name: &str,
+) -> Result<Answer, Trouble> {
     let mut aside = Aside::create(rt, name)?;
     match clear_hour(rt.alloc(), hour, &mut aside, &mut io::writer(rt)) {
         Ok(answer) if answer.good && answer.whole => {
@@ -47,13 +56,14 @@ pub fn clear_to_file(rt: &HostRuntime, hour: &mut Source, name: &str) -> Result<
         Ok(answer) => {
             aside.give_up(rt);
             if answer.good {
-                bail!("cannot write {name:?}: it takes no more");
+                let error = Error::new(ErrorKind::WriteZero, "it takes no more");
+                return Err(Trouble::unwritten(rt.alloc(), name, error));
             }
             Ok(answer)
         }
         Err(fault) => {
             aside.give_up(rt);
-            Err(fault.into())
+            Err(Trouble::of(rt.alloc(), fault, hour_name, "-"))
         }
     }
 }
@@ -73,13 +83,13 @@ pub fn end_answer(rt: &HostRuntime, program: &str, answer: Answer) -> Status
 }
 
 /// Ends a program: where there is no answer, a line on standard error says why.
-pub fn end(rt: &HostRuntime, program: &str, run: Result<Status>) -> ExitCode
+pub fn end(rt: &HostRuntime, program: &str, run: Result<Status, Trouble>) -> ExitCode
     ensures { exit_status result ≡ status_of_run run }
 {
     match run {
         Ok(status) => status.exit_code(),
-        Err(error) => {
-            let _ = eprintln!(rt; "{program}: {error:#}");
+        Err(trouble) => {
+            let _ = eprintln!(rt; "{program}: {trouble}");
             Status::Trouble.exit_code()
         }
     }

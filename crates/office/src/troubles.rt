@@ -1,0 +1,78 @@
+//! Why a program has no answer, said of the files that it was called with.
+use crate::faults::Fault;
+use std::alloc::{AllocError, Global};
+use std::{fmt, io};
+
+/// Why a program has no answer. A name stands here whole, however long it is, since a file is found again by the end of its name.
+#[derive(Debug, Drop)]
+pub enum Trouble {
+    /// A file that cannot be read.
+    Unread { name: String, error: io::Error },
+    /// A file that cannot be written.
+    Unwritten { name: String, error: io::Error },
+    /// What stands under a name that is not written over, and why.
+    Kept { name: String, reason: &'static str },
+    /// Anything else.
+    Other(anyhow::Error),
+}
+
+impl fmt::Display for Trouble {
+    fn fmt<W: fmt::Write>(&self, f: &mut fmt::Formatter<W>) -> fmt::Result {
+        match self {
+            Trouble::Unread { name, error } => write!(f, "cannot read {name:?}: {error}"),
+            Trouble::Unwritten { name, error } => write!(f, "cannot write {name:?}: {error}"),
+            Trouble::Kept { name, reason } => {
+                write!(f, "{name:?} {reason}: it is not written over")
+            }
+            Trouble::Other(error) => write!(f, "{error:#}"),
+        }
+    }
+}
+
+impl From<anyhow::Error> for Trouble {
+    fn from(error: anyhow::Error) -> Self {
+        Self::Other(error)
+    }
+}
+
+impl From<AllocError> for Trouble {
+    fn from(error: AllocError) -> Self {
+        Self::Other(anyhow::Error::from(error))
+    }
+}
+
+impl Trouble {
+    /// The file of that name cannot be read.
+    pub fn unread(heap: Global, name: &str, error: io::Error) -> Trouble {
+        match String::from_str(heap, name) {
+            Ok(name) => Trouble::Unread { name, error },
+            Err(wanting) => Trouble::from(wanting),
+        }
+    }
+
+    /// The file of that name cannot be written.
+    pub fn unwritten(heap: Global, name: &str, error: io::Error) -> Trouble {
+        match String::from_str(heap, name) {
+            Ok(name) => Trouble::Unwritten { name, error },
+            Err(wanting) => Trouble::from(wanting),
+        }
+    }
+
+    /// What stands under that name is not written over, for a reason.
+    pub fn kept(heap: Global, name: &str, reason: &'static str) -> Trouble {
+        match String::from_str(heap, name) {
+            Ok(name) => Trouble::Kept { name, reason },
+            Err(wanting) => Trouble::from(wanting),
+        }
+    }
+
+    /// A fault of clearing or checking, where the hour and the published result have these names. Standard input, `-`, has no name to be
+    /// said.
+    pub fn of(heap: Global, fault: Fault, hour: &str, published: &str) -> Trouble {
+        match fault {
+            Fault::Hour(error) if hour != "-" => Trouble::unread(heap, hour, error),
+            Fault::Published(error) if published != "-" => Trouble::unread(heap, published, error),
+            fault => Trouble::Other(anyhow::Error::from(fault)),
+        }
+    }
+}
