@@ -4,3 +4,4 @@ pub mod Hints
 pub mod Status
 pub mod Clearing
 pub mod Checking
+pub mod Faults

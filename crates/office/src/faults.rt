@@ -1,5 +1,6 @@
 //! Why a program has no answer. A refused hour is none of these: its refusal is the answer.
 ghost use Rattle.std.specs.Prelude.{◌≡◌};
+ghost use Rattle.office.specs.Faults.{fault_shown};
 ghost use Rattle.office.specs.declared.faults.Fault.TheVariants.{Memory};
 
 use std::alloc::AllocError;
@@ -20,6 +21,8 @@ pub enum Fault {
 }
 
 impl fmt::Display for Fault {
+    ghost output = { fault_shown };
+
     fn fmt<W: fmt::Write>(&self, f: &mut fmt::Formatter<W>) -> fmt::Result {
         match self {
             Fault::Hour(error) => write!(f, "cannot read the hour: {error}"),
