@@ -11,7 +11,7 @@ use Rattle.network.specs.Network.{carried}
 use Rattle.hour.specs.Seen.{market_seen}
 use Rattle.network.specs.Given.{outcome_given, item}
 use Rattle.ledger.specs.Money.{first_row, worth_by, LedgerOf, Payable}
-use Rattle.ledger.specs.Cleared.{LedgerIn}
+use Rattle.ledger.specs.Cleared.{LedgerIn, text_in, text_from}
 use Rattle.ledger.specs.declared.cleared.Cleared.{Cleared}
 use Rattle.ledger.specs.Promises.{TextSays}
 use Rattle.ledger.specs.Text.{Wording, wording, item_row, item_rows, sort_rows, worth_row, zone_row, zone_rows}
@@ -65,23 +65,24 @@ zone_rows_say n ps zs long is =
     rw long (rows_same n _ _ (λ z h. ap (zone_row z) (ap (λ (xs : List ℕ). at xs z) is ∙ get_or-take n ps z 0 h)))
 
 -- the parts of a cleared hour, each with its front of a list of amounts and its rows of the ledger
-module _ (c : Cleared) (l : List ℕ) (kept : LedgerIn c l) where
-  pub item_rows_say :
-      (s : Sort) (xs ys : List ℕ) → length xs ≡ count_of (market_seen c.hour) s →
-      ((k : ℕ) → k < count_of (market_seen c.hour) s → at xs k ≡ carried (outcome_given c.amounts) (item s k)) →
-      ((k : ℕ) → k < count_of (market_seen c.hour) s → at ys k ≡ at l (first_row (market_seen c.hour) s + k)) →
-      item_rows (wording s) (length xs) xs ys 0
-      ≡ sort_rows (market_seen c.hour) (outcome_given c.amounts) c.prices.now s
-  item_rows_say s xs ys long amounts rows =
-      rw long (rows_same (count_of (market_seen c.hour) s) _ _
-      (λ k h.
-      ap₂ (item_row (wording s) k) (amounts k h)
-      (ap (λ (j : ℕ). to_z w64 (at ys j)) (zero-add k) ∙ ap (to_z w64) (rows k h)
-      ∙ (read_as_money (market_seen c.hour) (outcome_given c.amounts) c.prices.now l (rules_of c.hour) c.payable kept).rows s k h)))
+pub item_rows_say :
+    (s : Sort) (n i : ℕ) (xs ys zs l : List ℕ) → length xs ≡ n → ((k : ℕ) → k < n → at xs k ≡ at zs k) →
+    ((k : ℕ) → k < n → at ys k ≡ at l (i + k)) →
+    item_rows (wording s) (length xs) xs ys 0 ≡ item_rows (wording s) n zs l i
+item_rows_say s n i xs ys zs l long amounts moneys =
+    rw long (rows_same n _ _
+    (λ k h.
+    ap₂ (item_row (wording s) k) (amounts k h)
+    (ap (λ (j : ℕ). to_z w64 (at ys j)) (zero-add k) ∙ ap (to_z w64) (moneys k h))))
 
-  pub worth_says :
-      (z : ℤ) (n : ℕ) → z ≡ worth_by (market_seen c.hour) (outcome_given c.amounts) →
-      worth_row (to_z w64 (of_z w64 z)) n ≡ worth_row (worth_by (market_seen c.hour) (outcome_given c.amounts)) n
-  worth_says z n is =
-      let small = (worth_small (market_seen c.hour) (outcome_given c.amounts) (rules_of c.hour) c.payable.feasible).whole in
-      ap (λ (w : ℤ). worth_row w n) (number_back z (omega (arith, ap nat_abs is)) ∙ is)
+pub worth_says :
+    (c : Cleared) (z : ℤ) (n : ℕ) → z ≡ worth_by (market_seen c.hour) (outcome_given c.amounts) →
+    worth_row (to_z w64 (of_z w64 z)) n ≡ worth_row (worth_by (market_seen c.hour) (outcome_given c.amounts)) n
+worth_says c z n is =
+    let small = (worth_small (market_seen c.hour) (outcome_given c.amounts) (rules_of c.hour) c.payable.feasible).whole in
+    ap (λ (w : ℤ). worth_row w n) (number_back z (omega (arith, ap nat_abs is)) ∙ is)
+
+-- the text of a cleared hour whose ledger has every money is that of its outcome
+pub ledger_says : (c : Cleared) (n : ℕ) (l : List ℕ) → LedgerIn c l → text_from c n l ≡ text_in c n
+ledger_says c n l kept =
+    text_says (market_seen c.hour) (outcome_given c.amounts) c.prices.now l n (rules_of c.hour) c.payable kept

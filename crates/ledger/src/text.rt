@@ -2,7 +2,7 @@
 ghost use Rattle.std.specs.Prelude.{◌≡◌, length, IfOk, string_bytes};
 ghost use Rattle.hour.specs.Text.{Adds};
 ghost use Rattle.ledger.specs.Text.{worth_row, zone_row, zone_rows, wording, item_row, item_rows};
-ghost use Rattle.ledger.specs.Cleared.{LedgerIn, Room, text_in};
+ghost use Rattle.ledger.specs.Cleared.{LedgerIn, Room, text_in, text_from};
 
 use crate::cleared::Cleared;
 use crate::worth::worth_in;
@@ -69,16 +69,15 @@ fn item_rows(
     Ok(())
 }
 
-// All rows of an hour whose ledger was written.
+// All rows of an hour, with each money as a ledger has it.
 fn result_rows(
     text: &mut String,
     cleared: Cleared<'_, '_, '_>,
     pushes: u64,
     ledger: &[u64],
 ) -> Result<(), AllocError>
-    requires room { Room cleared ledger.now }
-    requires ledger { LedgerIn cleared ledger.now }
-    ensures { Adds result text.old (text_in cleared.entry pushes) text.new }
+    requires { Room cleared ledger.now }
+    ensures { Adds result text.old (text_from cleared.entry pushes ledger.now) text.new }
 {
     let hour = cleared.hour;
     let o = cleared.amounts;
@@ -97,6 +96,7 @@ fn result_rows(
 
 // The text of an hour whose ledger was written: each amount and each money is that of the hour's own bids and lines. An error is want of
 // memory.
+#[tactic(auto, using(crate::proofs::Saying::ledger_says))]
 pub fn result_text(
     heap: Global,
     cleared: Cleared<'_, '_, '_>,
@@ -105,7 +105,8 @@ pub fn result_text(
 ) -> Result<String, AllocError>
     requires room { Room cleared ledger.now }
     requires ledger { LedgerIn cleared ledger.now }
-    ensures { IfOk result (λ t. string_bytes t ≡ text_in cleared.entry pushes) }
+    ensures of_ledger { IfOk result (λ t. string_bytes t ≡ text_from cleared.entry pushes ledger.now) }
+    ensures of_outcome { IfOk result (λ t. string_bytes t ≡ text_in cleared.entry pushes) }
 {
     let mut text = String::new(heap);
     result_rows(&mut text, cleared, pushes, ledger)?;

@@ -35,4 +35,4 @@ returns-clause-text c =
     (again _ all.sold c.as_mut_slice-2.ensures.len c.as_slice-in-Ok.ensures.value)
     (again _ all.flow c.as_mut_slice-3.ensures.len c.as_slice-in-Ok-2.ensures.value)
     (again _ all.price c.as_mut_slice-4.ensures.len c.as_slice-in-Ok-3.ensures.value) refl in
-    there.says _ c.in_ok-text-in-Ok.ensures
+    there.says _ c.in_ok-text-in-Ok.ensures.of_outcome
