@@ -1,5 +1,5 @@
 -- The ledger of what is found, and what the fronts of slices say of it. Assumes nothing.
-use Rattle.std.proofs.Common.{◌≡◌, ℕ, zero, suc, ◌+◌, ◌≤◌, List, length, drop, ◌+ℤ◌, sym, refl, ap, ◌∙◌, subst, ap₂, arith, w64, of_z}
+use Rattle.std.proofs.Common.{◌≡◌, ℕ, zero, suc, ◌+◌, ◌≤◌, List, length, drop, ◌+ℤ◌, sym, refl, ap, ◌∙◌, inl, subst, ap₂, arith, w64, of_z}
 use Rattle.std.proofs.lemmas.List.{ext_get_or, get_or-drop, length-drop}
 use Rattle.hour.specs.Bytes.{market_of}
 use Rattle.hour.specs.Market.{Market, Outcome, Proper, at, line, count_of}
@@ -63,7 +63,7 @@ module _ (m : Market) (kept : KeepsRules m) (bought sold flow price : List ℕ) 
       record { buys = λ k below. (kept.each_buy k below).price; sells = λ k below. (kept.each_sell k below).price } in
       record {
         feasible = feasible_agree m _ _ (fronts_agree m bought sold flow) promised.feasible;
-        prices = λ z below. omega (arith, lowest_capped m max_price _ (proper_kept m kept) promised.lowest dear z below, front_prices m price z below);
+        prices = λ z below. omega (arith, lowest_capped m max_price _ (inl (proper_kept m kept)) promised.lowest dear z below, front_prices m price z below);
       }
 
   pub booked_front :

@@ -1,5 +1,5 @@
 -- The rules of an hour limit every row and every sum. Assumes nothing.
-use Rattle.std.proofs.Common.{◌≡◌, ℕ, zero, suc, ◌+◌, ◌*◌, ◌^◌, ◌<◌, ◌≤◌, List, ℤ, nat_abs, refl, ap, ◌∙◌, ap₂, add-mul, mul-le-mul, arith, w64, to_z, of_z}
+use Rattle.std.proofs.Common.{◌≡◌, ℕ, zero, suc, ◌+◌, ◌*◌, ◌^◌, ◌<◌, ◌≤◌, List, ℤ, nat_abs, refl, ap, ◌∙◌, ap₂, inl, add-mul, mul-le-mul, arith, w64, to_z, of_z}
 use borrow.Author.Differences.{ints}
 use Rattle.hour.proofs.First.{is_none}
 use Rattle.hour.proofs.Kept.{kept}
@@ -58,7 +58,7 @@ prices_kept m rules =
 pub payable_lowest :
     (m : Market) (o : Outcome) (ps : List ℕ) → KeepsRules m → Feasible m o → Lowest m ps → Payable m o ps
 payable_lowest m o ps rules feasible low =
-    record { feasible = feasible; prices = lowest_capped m max_price ps (proper_kept m rules) low (prices_kept m rules) }
+    record { feasible = feasible; prices = lowest_capped m max_price ps (inl (proper_kept m rules)) low (prices_kept m rules) }
 
 module _ (m : Market) (o : Outcome) (ps : List ℕ) (rules : KeepsRules m) (pay : Payable m o ps) where
   pub above_small : (i : Item) → Among m i → above m ps i ≤ max_price

@@ -12,7 +12,8 @@
 --   Lattice          where two lists of prices settle an outcome, the list of each zone's lower price settles it too, and so
 --                    do that of the higher ones and that of the means (BetweenSettles)
 --   OneLowest        lowest prices are one list; the lowest that settle one outcome are the lowest that settle any (LowestOne m)
---   LowestCapped     lowest prices are at or below the dearest bid
+--   LowestCapped     lowest prices of proper markets, and of any market without costs and supplies, are at or below the dearest
+--                    bid
 --   Floor            in a market with a free start, prices that settle an outcome, of which some may be below nothing, still
 --                    settle it when these are set to nothing
 --   PlainStart       a market without costs and supplies has a free start
@@ -29,7 +30,7 @@
 --                    Best, Even, NoRegret and Exchange of plain markets, said in the words by lists alone
 --
 -- Of two sides of an order, what is subtracted stands on the other side: naturals only.
-use Rattle.std.specs.Prelude.{◌≡◌, ℕ, ◌+◌, ◌*◌, ◌<◌, ◌≤◌, ◌↔◌, List, [], ◌∷◌, length}
+use Rattle.std.specs.Prelude.{◌≡◌, ℕ, ◌+◌, ◌*◌, ◌<◌, ◌≤◌, ◌↔◌, ◌⊎◌, List, [], ◌∷◌, length}
 use Rattle.hour.specs.declared.items.Bid.{Bid}
 use Rattle.hour.specs.declared.items.Line.{Line}
 use Rattle.hour.specs.Market.{Market, Outcome, Proper, Feasible, Settled, Plain, at, worth, costs, in_zone, into, out_of}
@@ -94,7 +95,8 @@ OneLowest = (m : Market) → Proper m → LowestOne m
 
 abbrev pub LowestCapped : Type 0
 LowestCapped =
-    (m : Market) (c : ℕ) (ps : List ℕ) → Proper m → Lowest m ps → PricesTo m c → (z : ℕ) → z < m.zones → at ps z ≤ c
+    (m : Market) (c : ℕ) (ps : List ℕ) → Proper m ⊎ Plain m → Lowest m ps → PricesTo m c → (z : ℕ) → z < m.zones →
+    at ps z ≤ c
 
 abbrev pub Floor : Type 0
 Floor =
