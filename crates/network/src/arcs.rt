@@ -1,5 +1,5 @@
 //! What a way through the network is made of.
-use hour::Item;
+pub use hour::Item;
 
 /// A step along an item, from its tail to its head, or back from its head to its tail.
 #[derive(Clone, Copy)]

@@ -6,9 +6,8 @@ pub mod promises;
 pub mod settled;
 pub mod tables;
 
-pub use arcs::Step;
-pub use hour::{Item, number_at};
-pub use tables::{Amounts, Row, Tables, item_at, row_at, row_count, row_in, worth_of};
+pub use arcs::{Item, Step};
+pub use tables::{Amounts, Row, Tables, item_at, number_at, row_at, row_count, row_in, worth_of};
 
 #[cfg(test)]
 mod tests;

@@ -8,7 +8,8 @@ ghost use Rattle.network.specs.Given.{outcome_given};
 ghost use Rattle.network.specs.Network.{carried, nth};
 ghost use Rattle.network.specs.Tables.{items, triples, of_numbers, nth_row, bids_in, lines_in, zone_total, column_no};
 
-use hour::{Bid, Item, Line, number_at};
+pub use hour::number_at;
+use hour::{Bid, Item, Line};
 
 #[derive(Clone, Copy)]
 pub struct Tables<'a> {
