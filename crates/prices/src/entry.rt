@@ -8,7 +8,7 @@ ghost use Rattle.network.specs.Given.{market_given};
 ghost use Rattle.prices.specs.Ended.{FoundIn, PromisedIn, Left, Wiped, ragged_fault, layout_fault};
 ghost use Rattle.prices.specs.Ended.{lengths, slices_fault, tables_fault, Small, TablesAnswer, lent};
 
-use crate::tables::clear_slices;
+use crate::tables::clear_tables;
 use hour::{Bid, Entry, Lengths, Line, Refusal, check_counts, check_lent, check_results};
 use network::{Row, Tables, row_count, row_in};
 
@@ -125,6 +125,6 @@ pub fn clear<'a>(
     };
     check_tables(t, has, work.len())?;
     let items = row_count(buys) + row_count(sells) + row_count(lines);
-    work[0..64 * items].fill(0);
-    Ok(clear_slices(t, bought, sold, flow, price))
+    let work = &mut work[0..64 * items];
+    Ok(clear_tables(t, bought, sold, flow, price, work))
 }

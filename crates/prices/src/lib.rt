@@ -9,3 +9,4 @@ mod tables;
 
 pub use entry::clear;
 pub use hours::clear_lent;
+pub use tables::clear_tables;

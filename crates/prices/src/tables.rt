@@ -1,5 +1,5 @@
 // A market cleared on tables that the caller lends.
-ghost use Rattle.std.specs.Prelude.{◌≡◌, length, drop};
+ghost use Rattle.std.specs.Prelude.{◌≡◌, length, drop, replicate};
 ghost use Rattle.hour.specs.Rules.{KeepsRules};
 ghost use Rattle.network.specs.Tables.{items, outcome_in};
 ghost use Rattle.paths.specs.Promises.{prices_of};
@@ -76,4 +76,28 @@ pub fn clear_slices(
         &mut flow[0..lines],
         &mut price[0..zones],
     )
+}
+
+/// Clears a market that keeps the rules, beginning with nothing bought, sold or carried, for a caller who knows that: nothing is checked,
+/// and nothing is refused. Answers how many pushes there were. Slices past what is needed are left as they were; the work slice, of any
+/// length, is left at zeros.
+pub fn clear_tables(
+    t: Tables,
+    bought: &mut [u64],
+    sold: &mut [u64],
+    flow: &mut [u64],
+    price: &mut [u64],
+    work: &mut [u64],
+) -> u64
+    requires kept { KeepsRules (market_given t) }
+    requires room { Roomy (items t.buys.now) (items t.sells.now) (items t.lines.now) t.zones bought.old sold.old flow.old price.old }
+    ensures found { Found (market_given t.entry) result (result_in (market_given t.entry) bought.new sold.new flow.new) (prices_in (market_given t.entry) price.new) }
+    ensures bought { drop (items t.entry.buys.now) bought.new ≡ drop (items t.entry.buys.now) bought.old }
+    ensures sold { drop (items t.entry.sells.now) sold.new ≡ drop (items t.entry.sells.now) sold.old }
+    ensures flow { drop (items t.entry.lines.now) flow.new ≡ drop (items t.entry.lines.now) flow.old }
+    ensures price { drop t.entry.zones price.new ≡ drop t.entry.zones price.old }
+    ensures work { work.new ≡ replicate (length work.old) 0 }
+{
+    work.fill(0);
+    clear_slices(t, bought, sold, flow, price)
 }
