@@ -3,7 +3,7 @@ ghost use Rattle.std.specs.Prelude.{◌≡◌, ◌+◌, ◌*◌, ◌≤◌, leng
 ghost use Rattle.hour.specs.Bytes.{market_of};
 ghost use Rattle.prices.specs.Found.{Roomy, Found, result_in, prices_in};
 
-use crate::lay::{lay_buys, lay_lines, lay_sells};
+use crate::lay::lay_hour;
 use crate::tables::clear_slices;
 use hour::Hour;
 use network::Tables;
@@ -28,9 +28,7 @@ fn clear_laid(
     let (buys, rest) = work.split_at_mut(3 * hour.buys());
     let (sells, rest) = rest.split_at_mut(3 * hour.sells());
     let (lines, _) = rest.split_at_mut(3 * hour.lines());
-    lay_buys(hour, buys);
-    lay_sells(hour, sells);
-    lay_lines(hour, lines);
+    lay_hour(hour, buys, sells, lines);
     let t = Tables {
         zones: hour.zones(),
         buys: &*buys,

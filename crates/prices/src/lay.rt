@@ -25,7 +25,7 @@ fn bid_row(bid: Bid) -> [u64; 3]
     [bid.zone, bid.price, bid.amount]
 }
 
-pub fn lay_buys(hour: Hour<'_>, table: &mut [u64])
+fn lay_buys(hour: Hour<'_>, table: &mut [u64])
     requires { length table.old ≡ 3 * hour.buys }
     ensures { bids_in table.new ≡ (market_of hour.entry.bytes.now).buys }
 {
@@ -39,7 +39,7 @@ pub fn lay_buys(hour: Hour<'_>, table: &mut [u64])
     );
 }
 
-pub fn lay_sells(hour: Hour<'_>, table: &mut [u64])
+fn lay_sells(hour: Hour<'_>, table: &mut [u64])
     requires { length table.old ≡ 3 * hour.sells }
     ensures { bids_in table.new ≡ (market_of hour.entry.bytes.now).sells }
 {
@@ -53,7 +53,7 @@ pub fn lay_sells(hour: Hour<'_>, table: &mut [u64])
     );
 }
 
-pub fn lay_lines(hour: Hour<'_>, table: &mut [u64])
+fn lay_lines(hour: Hour<'_>, table: &mut [u64])
     requires { length table.old ≡ 3 * hour.lines }
     ensures { lines_in table.new ≡ (market_of hour.entry.bytes.now).lines }
 {
@@ -68,4 +68,18 @@ pub fn lay_lines(hour: Hour<'_>, table: &mut [u64])
             [line.from, line.to, line.capacity]
         },
     );
+}
+
+// The bids and lines of an hour, all three sorts.
+pub fn lay_hour(hour: Hour<'_>, buys: &mut [u64], sells: &mut [u64], lines: &mut [u64])
+    requires buys { length buys.old ≡ 3 * hour.buys }
+    requires sells { length sells.old ≡ 3 * hour.sells }
+    requires lines { length lines.old ≡ 3 * hour.lines }
+    ensures buys { bids_in buys.new ≡ (market_of hour.entry.bytes.now).buys }
+    ensures sells { bids_in sells.new ≡ (market_of hour.entry.bytes.now).sells }
+    ensures lines { lines_in lines.new ≡ (market_of hour.entry.bytes.now).lines }
+{
+    lay_buys(hour, buys);
+    lay_sells(hour, sells);
+    lay_lines(hour, lines);
 }

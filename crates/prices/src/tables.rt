@@ -1,11 +1,15 @@
 // A market cleared on tables that the caller lends.
 ghost use Rattle.std.specs.Prelude.{◌≡◌, length, drop, replicate};
 ghost use Rattle.hour.specs.Rules.{KeepsRules};
+ghost use Rattle.network.specs.Prices.{LowestOf, Lowest};
 ghost use Rattle.network.specs.Tables.{items, outcome_in};
 ghost use Rattle.paths.specs.Promises.{prices_of};
 ghost use Rattle.network.specs.Given.{market_given};
 ghost use Rattle.paths.specs.Ways.{plan_of};
+ghost use Rattle.circulation.specs.Promises.{StepsSound};
+ghost use Rattle.circulation.specs.Run.{Run};
 ghost use Rattle.prices.specs.Found.{Fitted, Roomy, Found, result_in, prices_in};
+ghost use Rattle.prices.specs.Laid.{nothing};
 
 use circulation::circulate;
 use hour::MAX_ZONES;
@@ -25,7 +29,33 @@ fn lay_prices(ways: &[Way], price: &mut [u64])
     }
 }
 
+// Clears a market that keeps the rules, beginning with nothing, in slices and ways that are just as many as needed.
+#[tactic(auto, using(network::proofs::Rows::length_bids_in, network::proofs::Rows::length_lines_in))]
+pub fn circulate_from_nothing(
+    t: Tables,
+    bought: &mut [u64],
+    sold: &mut [u64],
+    flow: &mut [u64],
+    ways: &mut [Way],
+) -> u64
+    requires kept { KeepsRules (market_given t) }
+    requires bought { length bought.old ≡ items t.buys.now }
+    requires sold { length sold.old ≡ items t.sells.now }
+    requires flow { length flow.old ≡ items t.lines.now }
+    requires zones { length ways.old ≡ t.zones }
+    ensures run { Run (market_given t.entry) (nothing (market_given t.entry)) result (outcome_in bought.new sold.new flow.new) (plan_of ways.new) }
+    ensures pushes { StepsSound (market_given t.entry) (nothing (market_given t.entry)) (outcome_in bought.new sold.new flow.new) result }
+    ensures settled { LowestOf (market_given t.entry) (outcome_in bought.new sold.new flow.new) (prices_of (plan_of ways.new)) }
+    ensures lowest { Lowest (market_given t.entry) (prices_of (plan_of ways.new)) }
+{
+    bought.fill(0);
+    sold.fill(0);
+    flow.fill(0);
+    circulate(t, bought, sold, flow, ways)
+}
+
 // Clears a market that keeps the rules, in slices that are just as long as needed.
+#[tactic(auto, using(network::proofs::Rows::length_bids_in, network::proofs::Rows::length_lines_in))]
 fn clear_fitted(
     t: Tables,
     bought: &mut [u64],
@@ -37,12 +67,9 @@ fn clear_fitted(
     requires fitted { Fitted (market_given t) bought.old sold.old flow.old price.old }
     ensures { Found (market_given t.entry) result (outcome_in bought.new sold.new flow.new) price.new }
 {
-    bought.fill(0);
-    sold.fill(0);
-    flow.fill(0);
     let mut room = [Way::NONE; ZONES_ROOM];
     let ways = &mut room[0..t.zones as usize];
-    let pushes = circulate(t, bought, sold, flow, ways);
+    let pushes = circulate_from_nothing(t, bought, sold, flow, ways);
     lay_prices(ways, price);
     pushes
 }

@@ -10,8 +10,8 @@ clear_slices-requires c =
     let bytes = c.args.hour.bytes.now in
     record {
       kept =
-          kept_laid _ _ _ _ (market_of bytes) c.zones.ensures c.lay_buys.ensures c.lay_sells.ensures
-          c.lay_lines.ensures (plain_said bytes).unsupplied (kept bytes (is_none _ c.args.hour.kept));
+          kept_laid _ _ _ _ (market_of bytes) c.zones.ensures c.lay_hour.ensures.buys c.lay_hour.ensures.sells
+          c.lay_hour.ensures.lines (plain_said bytes).unsupplied (kept bytes (is_none _ c.args.hour.kept));
       room =
           record {
             bought_room = omega arith;
