@@ -128,6 +128,20 @@ module _ {X : Type 0} (said : ℕ → X) (fault : ℕ → X → Option Refusal) 
       (first_same _ _ count
       (λ k below. ap (fault k) (sym (get_or-map-range_with_len said 0 count k k absent below (zero-add k)))))
 
+-- the first fault of the bids, and of the lines, that the bytes say
+pub bids_fault_said :
+    (z : ℕ) (bs : List ℕ) (before count : ℕ) →
+    bids_fault z before (bids_said bs before count) ≡ bids_read z bs before count
+bids_fault_said z bs before count =
+    sym
+    (faults_said (λ k. bid_at bs (bid_place (before + k))) (λ k. bid_fault z (bid_place (before + k))) no_bid count)
+
+pub lines_fault_said :
+    (z : ℕ) (bs : List ℕ) (bids count : ℕ) →
+    all_lines_fault z bids (lines_said bs bids count) ≡ lines_read z bs bids count
+lines_fault_said z bs bids count =
+    sym (faults_said (λ k. line_at bs (line_place bids k)) (λ k. line_fault z (line_place bids k)) no_line count)
+
 -- the items of the market, checked where they stand
 pub items_said :
     (bs : List ℕ) →
@@ -140,15 +154,11 @@ items_said bs =
     let m = market_of bs in
     let buys : two bs 1 ≡ length m.buys = sym (length-map-range_with_len _ 0 (two bs 1)) in
     let sells : two bs 3 ≡ length m.sells = sym (length-map-range_with_len _ 0 (two bs 3)) in
-    let bids : (before count : ℕ) → bids_read z bs before count ≡ bids_fault z before (bids_said bs before count) =
-    λ before. faults_said (λ k. bid_at bs (bid_place (before + k))) (λ k. bid_fault z (bid_place (before + k))) no_bid
-    in
-    let lines : (before count : ℕ) → lines_read z bs before count ≡ all_lines_fault z before (lines_said bs before count) =
-    λ before. faults_said (λ k. line_at bs (line_place before k)) (λ k. line_fault z (line_place before k)) no_line
-    in
-    ap₂ ◌else◌ (bids 0 (two bs 1))
-    (ap₂ ◌else◌ (bids (two bs 1) (two bs 3) ∙ ap (λ (n : ℕ). bids_fault z n m.sells) buys)
-    (lines (two bs 1 + two bs 3) (two bs 5) ∙ ap₂ (λ (a b : ℕ). all_lines_fault z (a + b) m.lines) buys sells))
+    ap₂ ◌else◌ (sym (bids_fault_said z bs 0 (two bs 1)))
+    (ap₂ ◌else◌
+    (sym (bids_fault_said z bs (two bs 1) (two bs 3)) ∙ ap (λ (n : ℕ). bids_fault z n m.sells) buys)
+    (sym (lines_fault_said z bs (two bs 1 + two bs 3) (two bs 5))
+    ∙ ap₂ (λ (a b : ℕ). all_lines_fault z (a + b) m.lines) buys sells))
 
 pub items_stand : (bs : List ℕ) (h : Head) → head_read bs ≡ Ok h → items_read bs h ≡ item_fault (market_of bs)
 items_stand bs h ok = ap (items_read bs) (head_read_ok bs h ok).1 ∙ items_said bs

@@ -22,7 +22,7 @@ use Rattle.hour.proofs.Numbers.{one_from_low, two_from_low, three_from_low}
 
 -- Where a byte of the k-th stands, in a list of which each is written by `f` in `width` bytes.
 module _ {X : Type 0} (f : X → List ℕ) (width : ℕ) (each : (x : X) → width ≡ length (f x)) where
-  get_joined :
+  pub get_joined :
       (xs : List X) (rest : List ℕ) (k j : ℕ) (x : X) → k < length xs → j < width →
       get_or (flat_map f xs ++ rest) (width * k + j) 0 ≡ get_or (f (get_or xs k x)) j 0
   get_joined xs rest k j x below within =
@@ -34,7 +34,7 @@ module _ {X : Type 0} (f : X → List ℕ) (width : ℕ) (each : (x : X) → wid
       get_or_append_left (flat_map f xs) rest 0 (width * k + j) here
       ∙ (ap (λ (n : ℕ). get_or (flat_map f xs) (n + j) 0) front ∙ get_or-flat_map f xs k j x 0 below inside)
 
-  get_behind :
+  pub get_behind :
       (front : List ℕ) (at : ℕ) (xs : List X) (rest : List ℕ) (k j p : ℕ) (x : X) →
       at ≡ length front → k < length xs → j < width → p ≡ at + width * k →
       get_or (front ++ (flat_map f xs ++ rest)) (p + j) 0 ≡ get_or (f (get_or xs k x)) j 0
