@@ -4,7 +4,7 @@ ghost use Rattle.std.specs.Result.{result_err};
 ghost use Rattle.hour.specs.First.{first};
 ghost use Rattle.hour.specs.Refusals.{count_place};
 ghost use Rattle.hour.specs.Rules.{count_fault, item_fault};
-ghost use Rattle.hour.specs.Bytes.{two, in_first, limits_fault, head_read, needed_by, market_of, refusal_of};
+ghost use Rattle.hour.specs.Bytes.{two, in_first, limits_fault, head_read, items_read, needed_by, market_of, refusal_of};
 
 use crate::bytes::two_bytes;
 use crate::entries::Entry;
@@ -106,10 +106,10 @@ fn check_each<E: Entry>(bytes: &[u8], zones: u64, bids: usize, count: usize) -> 
     Ok(())
 }
 
-/// The first rule that a bid or a line breaks, of bytes with this head.
-pub fn check_items(bytes: &[u8], head: Head) -> Result<(), Refusal>
+// The first rule that a bid or a line breaks where it stands, of bytes with this head.
+fn check_each_sort(bytes: &[u8], head: Head) -> Result<(), Refusal>
     requires { head_read bytes.now ≡ Ok head }
-    ensures { result_err result ≡ item_fault (market_of bytes.now) }
+    ensures { result_err result ≡ items_read bytes.now head }
 {
     let buys = head.buys as usize;
     let sells = head.sells as usize;
@@ -117,6 +117,15 @@ pub fn check_items(bytes: &[u8], head: Head) -> Result<(), Refusal>
     check_each::<Bid>(bytes, head.zones, 0, buys)?;
     check_each::<Bid>(bytes, head.zones, buys, sells)?;
     check_each::<Line>(bytes, head.zones, buys + sells, lines)
+}
+
+/// The first rule that a bid or a line breaks, of bytes with this head.
+#[tactic(auto, using(crate::proofs::Heads::items_stand))]
+pub fn check_items(bytes: &[u8], head: Head) -> Result<(), Refusal>
+    requires { head_read bytes.now ≡ Ok head }
+    ensures { result_err result ≡ item_fault (market_of bytes.now) }
+{
+    check_each_sort(bytes, head)
 }
 
 /// The first rule that the bytes break.

@@ -42,6 +42,7 @@ impl<'a> Hour<'a> {
     ghost use Rattle.hour.specs.Seen.{market_seen};
 
     /// The hour that the bytes say, of bytes that are not refused.
+    #[tactic(auto, using(crate::proofs::Kept::buys_count, crate::proofs::Kept::sells_count, crate::proofs::Kept::lines_count))]
     pub fn of(bytes: &'a [u8]) -> Hour<'a>
         requires { is_some (refusal_of bytes.now) ≡ false }
         ensures { result.bytes.now ≡ bytes.now }
