@@ -44,7 +44,7 @@ impl Slice {
 }
 
 /// Something of each of the six.
-#[derive(Drop)]
+#[derive(Clone, Copy, Drop)]
 pub struct Slices<T> {
     pub bought: T,
     pub sold: T,

@@ -90,7 +90,7 @@ pub fn same_on_tables(heap: Global, bytes: &[u8]) -> Result<bool, AllocError> {
         return Ok(false);
     };
     let sizes = Sizes::for_head(head);
-    let mut usual = Lent::new(heap, Sizes::for_head(head))?;
+    let mut usual = Lent::new(heap, sizes)?;
     let mut longer = Lent::new(heap, sizes.one_longer())?;
     let pushes = usual.clear(bytes);
     let pushes_too = Tables::laid(heap, hour)?.clear(&mut longer);
