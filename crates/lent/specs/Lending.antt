@@ -1,5 +1,6 @@
 -- What a trial lends, and what the calls on it answer. Assumes nothing: these are definitions.
 --
+--   slice_numbered n     the slice with number n: 0 bought, 1 sold, 2 flow, 3 price, 4 ledger, and above that work
 --   part_of s all        what six have of the slice s
 --   capped n             n, or the largest usize where n is larger
 --   sizes_for h          how long slices have to be that are lent with an hour with the head h
@@ -14,7 +15,7 @@
 --                        lines earn, and the three numbers behind the rows are these sums
 --
 -- A row of a ledger is an i64, lent as the u64 of the same bits. Sums modulo 2^64 agree in both.
-use Rattle.std.specs.Prelude.{◌≡◌, ℕ, ◌+◌, ◌*◌, ◌-◌, ◌^◌, ◌%◌, List, take, drop, min, sum, replicate, slice_index, slice_set}
+use Rattle.std.specs.Prelude.{◌≡◌, ℕ, zero, suc, ◌+◌, ◌*◌, ◌-◌, ◌^◌, ◌%◌, List, take, drop, min, sum, replicate, slice_index, slice_set}
 use Rattle.std.specs.List.{All}
 use Rattle.std.specs.Global.{Vec}
 use Rattle.hour.specs.declared.reading.Head.{Head}
@@ -23,6 +24,14 @@ use Rattle.lent.specs.declared.Slice.{Slice}
 use Rattle.lent.specs.declared.Slice.TheVariants.{Bought, Sold, Flow, Price, Ledger, Work}
 use Rattle.lent.specs.declared.Slices.{Slices}
 use Rattle.lent.specs.declared.TheConstants.{MARK}
+
+abbrev pub slice_numbered : ℕ → Slice
+slice_numbered zero = Bought
+slice_numbered (suc zero) = Sold
+slice_numbered (suc (suc zero)) = Flow
+slice_numbered (suc (suc (suc zero))) = Price
+slice_numbered (suc (suc (suc (suc zero)))) = Ledger
+slice_numbered (suc (suc (suc (suc (suc n))))) = Work
 
 abbrev pub part_of : {T : Type 0} → Slice → Slices T → T
 part_of Bought all = all.bought

@@ -8,7 +8,7 @@ ghost use Rattle.hour.specs.Books.{market_in, size_of, left_by, written};
 ghost use Rattle.hour.specs.Bytes.{bytes_of};
 ghost use Rattle.hour.specs.Rules.{KeepsRules};
 ghost use Rattle.ledger.specs.Entry.{Answer};
-ghost use Rattle.lent.specs.Lending.{part_of, sizes_for, shorter_at, longer, held, marked, put_at, Unchanged, sum_of, Closes};
+ghost use Rattle.lent.specs.Lending.{part_of, sizes_for, slice_numbered, shorter_at, longer, held, marked, put_at, Unchanged, sum_of, Closes};
 
 use hour::{Book, Head, Lengths, Refusal, write};
 use ledger::clear;
@@ -41,6 +41,22 @@ impl Slice {
 
     /// Those that make a result.
     pub const RESULT: [Slice; 4] = [Slice::Bought, Slice::Sold, Slice::Flow, Slice::Price];
+}
+
+// By its number: 0 bought, 1 sold, 2 flow, 3 price, 4 ledger, and above that work.
+impl From<usize> for Slice {
+    ghost from_gives = { λ number slice. slice ≡ slice_numbered number };
+
+    fn from(number: usize) -> Slice {
+        match number {
+            0 => Slice::Bought,
+            1 => Slice::Sold,
+            2 => Slice::Flow,
+            3 => Slice::Price,
+            4 => Slice::Ledger,
+            _ => Slice::Work,
+        }
+    }
 }
 
 /// Something of each of the six.
@@ -82,8 +98,14 @@ impl Slices<usize> {
         }
     }
 
-    /// The same with one of the slices shorter by one number, where it has any.
-    pub fn one_short(mut self, slice: Slice) -> Sizes
+    /// The same with one of the slices shorter by one number, where it has any. `slice` is a `Slice`, or a slice's number.
+    pub fn one_short<S: Into<Slice>>(self, slice: S) -> Sizes
+        ensures { (short : _) × S.converts slice short × (result ≡ shorter_at short self) }
+    {
+        self.short_of(slice.into())
+    }
+
+    fn short_of(mut self, slice: Slice) -> Sizes
         ensures { result ≡ shorter_at slice self }
     {
         match slice {

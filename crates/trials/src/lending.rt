@@ -38,8 +38,12 @@ pub fn refused_word(
     }
 }
 
-// The same of an hour where one of the six slices is too short by one number.
-pub fn one_short(heap: Global, bytes: &[u8], slice: Slice) -> Result<String, AllocError> {
+// The same of an hour where one of the six slices, named or by its number, is too short by one number.
+pub fn one_short<S: Into<Slice> + Drop>(
+    heap: Global,
+    bytes: &[u8],
+    slice: S,
+) -> Result<String, AllocError> {
     let Ok(head) = read_head(bytes) else {
         return format!(in heap; "no hour\n");
     };

@@ -171,8 +171,8 @@ fn largest_hours(rt: &HostRuntime) -> Result<()> {
 fn short_slices(rt: &HostRuntime) -> Result<()> {
     let heap = rt.alloc();
     let bytes = sample(rt, "worked", "E")?;
-    for (number, slice) in Slice::ALL.iter().enumerate() {
-        let said = one_short(heap, bytes.as_slice(), *slice)?;
+    for number in 0..Slice::ALL.len() {
+        let said = one_short(heap, bytes.as_slice(), number)?;
         print!(rt; "slice {number} short {said}")?;
     }
     Ok(())
