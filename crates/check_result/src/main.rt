@@ -54,7 +54,7 @@ fn check(rt: &HostRuntime, found: &ArgMatches<'_>) -> Result<Status, Trouble> {
     let opened = First::open(rt, hour)?;
     match check_opened(rt, &opened, published) {
         Ok(answer) => Ok(end_answer(rt, PROGRAM, answer)),
-        Err(fault) => Err(Trouble::of(rt.alloc(), fault, hour, published)),
+        Err(fault) => Err(Trouble::from(fault).named(rt.alloc(), hour, published)),
     }
 }
 

@@ -3,7 +3,8 @@
 
 use clap::{Arg, ArgAction, ArgMatches, Command};
 use office::{
-    Source, Status, Trouble, VERSION, clear_hour, clear_to_file, end, end_answer, end_call, words,
+    Answer, Source, Status, Trouble, VERSION, clear_hour, clear_to_file, end, end_answer, end_call,
+    words,
 };
 use std::alloc::{AllocError, Global};
 use std::io;
@@ -31,21 +32,29 @@ fn command<'a>(heap: Global) -> Result<Command<'a>, AllocError> {
         .arg(hour)
 }
 
-fn clear(rt: &HostRuntime, found: &ArgMatches<'_>) -> Result<Status, Trouble> {
-    let source = found.get_str("HOUR").unwrap_or("-");
-    let target = found.get_str("FILE").unwrap_or("-");
-    let mut hour = Source::open(rt, source)?;
+fn answer(
+    rt: &HostRuntime,
+    hour: &mut Source,
+    source: &str,
+    target: &str,
+) -> Result<Answer, Trouble> {
     if target == "-" {
-        return match clear_hour(rt.alloc(), &mut hour, &mut io::writer(rt), &mut io::writer(rt)) {
-            Ok(answer) => Ok(end_answer(rt, PROGRAM, answer)),
-            Err(fault) => Err(Trouble::of(rt.alloc(), fault, source, "-")),
-        };
+        return Ok(clear_hour(rt.alloc(), hour, &mut io::writer(rt), &mut io::writer(rt))?);
     }
     if target == source {
         return Err(Trouble::kept(rt.alloc(), target, "is the hour"));
     }
-    let answer = clear_to_file(rt, &mut hour, source, target)?;
-    Ok(end_answer(rt, PROGRAM, answer))
+    clear_to_file(rt, hour, target)
+}
+
+fn clear(rt: &HostRuntime, found: &ArgMatches<'_>) -> Result<Status, Trouble> {
+    let source = found.get_str("HOUR").unwrap_or("-");
+    let target = found.get_str("FILE").unwrap_or("-");
+    let mut hour = Source::open(rt, source)?;
+    match answer(rt, &mut hour, source, target) {
+        Ok(answer) => Ok(end_answer(rt, PROGRAM, answer)),
+        Err(trouble) => Err(trouble.named(rt.alloc(), source, "-")),
+    }
 }
 
 fn run(rt: &HostRuntime) -> Result<Status, Trouble> {

@@ -10,7 +10,7 @@ use crate::troubles::Trouble;
 use anyhow::Context;
 use std::io::{Error, ErrorKind};
 use std::process::ExitCode;
-use std::{env, io};
+use std::{env, fmt, io};
 
 /// The version of the programs.
 pub const VERSION: &str = "0.2.0";
@@ -40,13 +40,8 @@ pub fn end_call(rt: &HostRuntime, error: clap::Error) -> anyhow::Result<Status> 
     }
 }
 
-/// Clears the hour of that name into a file that is written aside; a refusal goes to standard output, and the file stays as it was.
-pub fn clear_to_file(
-    rt: &HostRuntime,
-    hour: &mut Source,
-    hour_name: &str,
-    name: &str,
-) -> Result<Answer, Trouble> {
+/// Clears the hour into a file that is written aside; a refusal goes to standard output, and the file stays as it was.
+pub fn clear_to_file(rt: &HostRuntime, hour: &mut Source, name: &str) -> Result<Answer, Trouble> {
     let mut aside = Aside::create(rt, name)?;
     match clear_hour(rt.alloc(), hour, &mut aside, &mut io::writer(rt)) {
         Ok(answer) if answer.good && answer.whole => {
@@ -63,7 +58,7 @@ pub fn clear_to_file(
         }
         Err(fault) => {
             aside.give_up(rt);
-            Err(Trouble::of(rt.alloc(), fault, hour_name, "-"))
+            Err(Trouble::from(fault))
         }
     }
 }
@@ -83,13 +78,17 @@ pub fn end_answer(rt: &HostRuntime, program: &str, answer: Answer) -> Status
 }
 
 /// Ends a program: where there is no answer, a line on standard error says why.
-pub fn end(rt: &HostRuntime, program: &str, run: Result<Status, Trouble>) -> ExitCode
+pub fn end<E: fmt::Display + Drop>(
+    rt: &HostRuntime,
+    program: &str,
+    run: Result<Status, E>,
+) -> ExitCode
     ensures { exit_status result ≡ status_of_run run }
 {
     match run {
         Ok(status) => status.exit_code(),
-        Err(trouble) => {
-            let _ = eprintln!(rt; "{program}: {trouble}");
+        Err(error) => {
+            let _ = eprintln!(rt; "{program}: {error:#}");
             Status::Trouble.exit_code()
         }
     }

@@ -1,6 +1,7 @@
 //! Why a program has no answer, said of the files that it was called with.
 use crate::faults::Fault;
 use std::alloc::{AllocError, Global};
+use std::error::Error;
 use std::{fmt, io};
 
 /// Why a program has no answer. A name stands here whole, however long it is, since a file is found again by the end of its name.
@@ -12,6 +13,8 @@ pub enum Trouble {
     Unwritten { name: String, error: io::Error },
     /// What stands under a name that is not written over, and why.
     Kept { name: String, reason: &'static str },
+    /// A fault of clearing or checking.
+    Fault(Fault),
     /// Anything else.
     Other(anyhow::Error),
 }
@@ -24,8 +27,17 @@ impl fmt::Display for Trouble {
             Trouble::Kept { name, reason } => {
                 write!(f, "{name:?} {reason}: it is not written over")
             }
+            Trouble::Fault(fault) => write!(f, "{fault}"),
             Trouble::Other(error) => write!(f, "{error:#}"),
         }
+    }
+}
+
+impl Error for Trouble {}
+
+impl From<Fault> for Trouble {
+    fn from(fault: Fault) -> Self {
+        Self::Fault(fault)
     }
 }
 
@@ -37,7 +49,7 @@ impl From<anyhow::Error> for Trouble {
 
 impl From<AllocError> for Trouble {
     fn from(error: AllocError) -> Self {
-        Self::Other(anyhow::Error::from(error))
+        Self::Fault(Fault::from(error))
     }
 }
 
@@ -66,13 +78,15 @@ impl Trouble {
         }
     }
 
-    /// A fault of clearing or checking, where the hour and the published result have these names. Standard input, `-`, has no name to be
-    /// said.
-    pub fn of(heap: Global, fault: Fault, hour: &str, published: &str) -> Trouble {
-        match fault {
-            Fault::Hour(error) if hour != "-" => Trouble::unread(heap, hour, error),
-            Fault::Published(error) if published != "-" => Trouble::unread(heap, published, error),
-            fault => Trouble::Other(anyhow::Error::from(fault)),
+    /// The same, with the name of the hour or of the published result where that could not be read. Standard input, `-`, has no name to
+    /// be said.
+    pub fn named(self, heap: Global, hour: &str, published: &str) -> Trouble {
+        match self {
+            Trouble::Fault(Fault::Hour(error)) if hour != "-" => Trouble::unread(heap, hour, error),
+            Trouble::Fault(Fault::Published(error)) if published != "-" => {
+                Trouble::unread(heap, published, error)
+            }
+            trouble => trouble,
         }
     }
 }
