@@ -5,3 +5,4 @@ pub mod Status
 pub mod Clearing
 pub mod Checking
 pub mod Faults
+pub mod Troubles

@@ -1,7 +1,8 @@
 // What no clause says: that such calls succeed, how much is read of what has no end, and faults in mid-stream.
-use crate::{Answer, Fault, Hint, check_published, clear_hour, deliver};
+use crate::{Answer, Fault, Hint, Trouble, check_published, clear_hour, deliver};
 use checker::LONGEST_TEXT;
 use hour::{HEAD_SIZE, LONGEST_HOUR};
+use std::alloc::{AllocError, Global};
 use std::io;
 use std::io::{Error, ErrorKind, Read, Write};
 use std::process::Abort;
@@ -227,4 +228,37 @@ fn files_that_are_swapped_are_told(rt: HostRuntime) -> Result<(), Fail> {
     )?;
     assert_eq!(rt; answer.hint, Some(Hint::ResultForHour));
     Ok(())
+}
+
+const LONG: &str =
+    "a/folder/with/a/name/that/is/longer/than/what/an/error/of/anyhow/keeps/of/a/message/and/in/it/a/folder/with/another/long/name/hour.bin";
+
+fn shown(heap: Global, trouble: &Trouble) -> Result<String, AllocError> {
+    format!(in heap; "{trouble}")
+}
+
+#[test]
+fn a_long_name_is_said_whole(rt: HostRuntime) -> Result<(), Fail> {
+    let gone = Error::from(ErrorKind::NotFound);
+    let trouble = Trouble::from(Fault::Hour(gone)).named(rt.alloc(), LONG, "-");
+    let said = shown(rt.alloc(), &trouble)?;
+    assert!(rt; said.as_str().contains("/long/name/hour.bin"));
+    assert!(rt; matches!(trouble, Trouble::Unread { .. }));
+    let full = Trouble::unwritten(rt.alloc(), LONG, Error::from(ErrorKind::StorageFull));
+    let said = shown(rt.alloc(), &full)?;
+    assert!(rt; said.as_str().contains("/long/name/hour.bin"));
+    let kept = Trouble::kept(rt.alloc(), LONG, "is no file");
+    let said = shown(rt.alloc(), &kept)?;
+    assert!(rt;
+        said.as_str()
+            .ends_with("/long/name/hour.bin\" is no file: it is not written over")
+    );
+    Ok(())
+}
+
+#[test]
+fn standard_input_has_no_name(rt: HostRuntime) {
+    let gone = Error::from(ErrorKind::NotFound);
+    let trouble = Trouble::from(Fault::Published(gone)).named(rt.alloc(), LONG, "-");
+    assert!(rt; matches!(trouble, Trouble::Fault(Fault::Published(_))));
 }

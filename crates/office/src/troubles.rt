@@ -1,4 +1,9 @@
 //! Why a program has no answer, said of the files that it was called with.
+ghost use Rattle.std.specs.Prelude.{◌≡◌};
+ghost use Rattle.office.specs.Troubles.{UnreadIs, UnwrittenIs, KeptIs, NamedIs};
+ghost use Rattle.office.specs.declared.faults.Fault.TheVariants.{Memory};
+ghost use Rattle.office.specs.declared.troubles.Trouble.TheVariants as troubles;
+
 use crate::faults::Fault;
 use std::alloc::{AllocError, Global};
 use std::error::Error;
@@ -36,6 +41,8 @@ impl fmt::Display for Trouble {
 impl Error for Trouble {}
 
 impl From<Fault> for Trouble {
+    ghost from_gives = { λ fault trouble. trouble ≡ troubles.Fault fault };
+
     fn from(fault: Fault) -> Self {
         Self::Fault(fault)
     }
@@ -48,14 +55,18 @@ impl From<anyhow::Error> for Trouble {
 }
 
 impl From<AllocError> for Trouble {
+    ghost from_gives = { λ _ trouble. trouble ≡ troubles.Fault Memory };
+
     fn from(error: AllocError) -> Self {
         Self::Fault(Fault::from(error))
     }
 }
 
 impl Trouble {
-    /// The file of that name cannot be read.
-    pub fn unread(heap: Global, name: &str, error: io::Error) -> Trouble {
+    /// The file of that name cannot be read; or memory is wanting for the name, here and below.
+    pub fn unread(heap: Global, name: &str, error: io::Error) -> Trouble
+        ensures { UnreadIs name.now result }
+    {
         match String::from_str(heap, name) {
             Ok(name) => Trouble::Unread { name, error },
             Err(wanting) => Trouble::from(wanting),
@@ -63,7 +74,9 @@ impl Trouble {
     }
 
     /// The file of that name cannot be written.
-    pub fn unwritten(heap: Global, name: &str, error: io::Error) -> Trouble {
+    pub fn unwritten(heap: Global, name: &str, error: io::Error) -> Trouble
+        ensures { UnwrittenIs name.now result }
+    {
         match String::from_str(heap, name) {
             Ok(name) => Trouble::Unwritten { name, error },
             Err(wanting) => Trouble::from(wanting),
@@ -71,7 +84,9 @@ impl Trouble {
     }
 
     /// What stands under that name is not written over, for a reason.
-    pub fn kept(heap: Global, name: &str, reason: &'static str) -> Trouble {
+    pub fn kept(heap: Global, name: &str, reason: &'static str) -> Trouble
+        ensures { KeptIs name.now result }
+    {
         match String::from_str(heap, name) {
             Ok(name) => Trouble::Kept { name, reason },
             Err(wanting) => Trouble::from(wanting),
@@ -80,7 +95,9 @@ impl Trouble {
 
     /// The same, with the name of the hour or of the published result where that could not be read. Standard input, `-`, has no name to
     /// be said.
-    pub fn named(self, heap: Global, hour: &str, published: &str) -> Trouble {
+    pub fn named(self, heap: Global, hour: &str, published: &str) -> Trouble
+        ensures { NamedIs hour.now published.now self result }
+    {
         match self {
             Trouble::Fault(Fault::Hour(error)) if hour != "-" => Trouble::unread(heap, hour, error),
             Trouble::Fault(Fault::Published(error)) if published != "-" => {
