@@ -1,6 +1,6 @@
 //! Why a program has no answer, said of the files that it was called with.
-ghost use Rattle.std.specs.Prelude.{◌≡◌};
-ghost use Rattle.office.specs.Troubles.{UnreadIs, UnwrittenIs, KeptIs, NamedIs};
+ghost use Rattle.std.specs.Prelude.{◌≡◌, string_bytes};
+ghost use Rattle.office.specs.Troubles.{MadeOf, NamedIs};
 ghost use Rattle.office.specs.declared.faults.Fault.TheVariants.{Memory};
 ghost use Rattle.office.specs.declared.troubles.Trouble.TheVariants as troubles;
 
@@ -49,6 +49,8 @@ impl From<Fault> for Trouble {
 }
 
 impl From<anyhow::Error> for Trouble {
+    ghost from_gives = { λ error trouble. trouble ≡ troubles.Other error };
+
     fn from(error: anyhow::Error) -> Self {
         Self::Other(error)
     }
@@ -65,7 +67,7 @@ impl From<AllocError> for Trouble {
 impl Trouble {
     /// The file of that name cannot be read; or memory is wanting for the name, here and below.
     pub fn unread(heap: Global, name: &str, error: io::Error) -> Trouble
-        ensures { UnreadIs name.now result }
+        ensures { MadeOf string_bytes (λ named. troubles.Unread named error) name.now result }
     {
         match String::from_str(heap, name) {
             Ok(name) => Trouble::Unread { name, error },
@@ -75,7 +77,7 @@ impl Trouble {
 
     /// The file of that name cannot be written.
     pub fn unwritten(heap: Global, name: &str, error: io::Error) -> Trouble
-        ensures { UnwrittenIs name.now result }
+        ensures { MadeOf string_bytes (λ named. troubles.Unwritten named error) name.now result }
     {
         match String::from_str(heap, name) {
             Ok(name) => Trouble::Unwritten { name, error },
@@ -85,7 +87,7 @@ impl Trouble {
 
     /// What stands under that name is not written over, for a reason.
     pub fn kept(heap: Global, name: &str, reason: &'static str) -> Trouble
-        ensures { KeptIs name.now result }
+        ensures { MadeOf string_bytes (λ named. troubles.Kept named reason.entry) name.now result }
     {
         match String::from_str(heap, name) {
             Ok(name) => Trouble::Kept { name, reason },
