@@ -64,16 +64,38 @@ pub zone_rows_say :
 zone_rows_say n ps zs long is =
     rw long (rows_same n _ _ (λ z h. ap (zone_row z) (ap (λ (xs : List ℕ). at xs z) is ∙ get_or-take n ps z 0 h)))
 
--- the parts of a cleared hour, each with its front of a list of amounts and its rows of the ledger
-pub item_rows_say :
-    (s : Sort) (n i : ℕ) (xs ys zs l : List ℕ) → length xs ≡ n → ((k : ℕ) → k < n → at xs k ≡ at zs k) →
-    ((k : ℕ) → k < n → at ys k ≡ at l (i + k)) →
-    item_rows (wording s) (length xs) xs ys 0 ≡ item_rows (wording s) n zs l i
-item_rows_say s n i xs ys zs l long amounts moneys =
+-- the rows of a sort, of fronts of its amounts and of its part of a ledger
+item_rows_are :
+    (s : Sort) (n i : ℕ) (xs ys l : List ℕ) (amount : ℕ → ℕ) → length xs ≡ n →
+    ((k : ℕ) → k < n → at xs k ≡ amount k) → ((k : ℕ) → k < n → at ys k ≡ at l (i + k)) →
+    item_rows (wording s) (length xs) xs ys 0
+    ≡ rows n (λ k. item_row (wording s) k (amount k) (to_z w64 (at l (i + k))))
+item_rows_are s n i xs ys l amount long amounts moneys =
     rw long (rows_same n _ _
     (λ k h.
     ap₂ (item_row (wording s) k) (amounts k h)
     (ap (λ (j : ℕ). to_z w64 (at ys j)) (zero-add k) ∙ ap (to_z w64) (moneys k h))))
+
+-- the parts of a cleared hour, each with its front of a list of amounts and its rows of the ledger
+pub item_rows_same :
+    (s : Sort) (n i : ℕ) (xs ys zs l : List ℕ) → length xs ≡ n → ((k : ℕ) → k < n → at xs k ≡ at zs k) →
+    ((k : ℕ) → k < n → at ys k ≡ at l (i + k)) →
+    item_rows (wording s) (length xs) xs ys 0 ≡ item_rows (wording s) n zs l i
+item_rows_same s n i xs ys zs l = item_rows_are s n i xs ys l (at zs)
+
+-- the same where the ledger has every money: each row has the money of the hour's own outcome
+pub item_rows_say :
+    (c : Cleared) (l : List ℕ) → LedgerIn c l → (s : Sort) (xs ys : List ℕ) →
+    length xs ≡ count_of (market_seen c.hour) s →
+    ((k : ℕ) → k < count_of (market_seen c.hour) s → at xs k ≡ carried (outcome_given c.amounts) (item s k)) →
+    ((k : ℕ) → k < count_of (market_seen c.hour) s → at ys k ≡ at l (first_row (market_seen c.hour) s + k)) →
+    item_rows (wording s) (length xs) xs ys 0
+    ≡ sort_rows (market_seen c.hour) (outcome_given c.amounts) c.prices.now s
+item_rows_say c l kept s xs ys long amounts moneys =
+    let m = market_seen c.hour in
+    let o = outcome_given c.amounts in
+    item_rows_are s (count_of m s) (first_row m s) xs ys l (λ k. carried o (item s k)) long amounts moneys
+    ∙ rows_say m o c.prices.now l (rules_of c.hour) c.payable kept s
 
 pub worth_says :
     (c : Cleared) (z : ℤ) (n : ℕ) → z ≡ worth_by (market_seen c.hour) (outcome_given c.amounts) →
